@@ -1,0 +1,9 @@
+pub mod Counts
+pub mod Disk
+pub mod Lawful
+pub mod Left
+pub mod MemoryHosts
+pub mod Picks
+pub mod Replay
+pub mod Script
+pub mod Tally
