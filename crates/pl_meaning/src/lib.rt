@@ -1,0 +1,3 @@
+//! What commands and scripts mean: the events that they have, one after another. The definitions stand
+//! in `specs/`.
+#![tactic(auto)]
