@@ -1,0 +1,16 @@
+pub mod Tools
+pub mod Digits
+pub mod QuotedTexts
+pub mod Nesting
+pub mod DollarMarks
+pub mod EscapeParts
+pub mod Reach
+pub mod Words
+pub mod Marks
+pub mod Complete
+pub mod Sound
+pub mod SoundMarks
+pub mod Whole
+pub mod Commands
+pub mod Joins
+pub mod Placed

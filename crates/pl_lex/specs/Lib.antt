@@ -1,0 +1,6 @@
+pub mod Characters
+pub mod Spellings
+pub mod Rows
+pub mod Lexemes
+pub mod Scan
+pub mod Steps
