@@ -1,0 +1,31 @@
+//! What operators, functions and casts give, from values to a value or a SQLSTATE.
+#![tactic(auto)]
+
+mod answer;
+mod casts;
+mod characters;
+mod comparison;
+mod forms;
+mod functions;
+mod like;
+mod logic;
+mod numbers;
+mod operator;
+mod operators;
+mod reading;
+mod types;
+
+pub use answer::CalcFail;
+pub use casts::{assign, cast};
+pub use comparison::compare;
+pub use forms::output_form;
+pub use functions::{Builtin, function, function_named};
+pub use operator::{Arithmetic, Comparison, Operator, Test};
+pub use operators::{binary, unary};
+pub use types::{type_of_nullif, type_of_op, unite};
+
+/// The most bytes of a text.
+pub const TEXT_LIMIT: usize = 1_048_576;
+
+#[cfg(test)]
+mod tests;
