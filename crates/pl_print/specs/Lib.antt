@@ -1,0 +1,4 @@
+pub mod Grids
+pub mod Messages
+pub mod Tags
+pub mod TextForm
