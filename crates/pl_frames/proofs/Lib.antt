@@ -1,0 +1,6 @@
+pub mod Crash
+pub mod Steps
+pub mod Looks
+pub mod Gate
+pub mod Walk
+pub mod Header
