@@ -1,0 +1,15 @@
+use Rattle.std.proofs.Common.{◌<◌, ◌-◌, ◌^◌}
+use Rattle.pl_disk.specs.Disk.{Looks}
+use Rattle.pl_keeper.proofs.Along.{SoFar}
+use Rattle.pl_keeper.proofs.opening.read_frames.Given as goal
+
+-- the batches are the frames up to this place, and nothing was written
+abbrev pub invariant-frames : goal.invariant-frames
+invariant-frames g l = record {
+  place : l.at < 2 ^ 63;
+  looks : Looks (g.D.Disk.view l.fn.disk) (g.D.Disk.view l.disk);
+  read : (g.D.Disk.view l.fn.disk).told → SoFar (g.D.Disk.view l.fn.disk).seen.a l.batches.items l.at;
+}
+
+abbrev pub decreases-frames : goal.decreases-frames
+decreases-frames g l = 2 ^ 63 - l.at
