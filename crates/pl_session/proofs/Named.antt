@@ -1,0 +1,149 @@
+-- A table by its name, among the tables in memory and in the database that they stand for.
+use Rattle.std.proofs.Common.{◌≡◌, ◌≤◌, ◌<◌, ◌&&◌, ◌||◌, ℕ, zero, suc, ◌+◌, max, List, [], ◌∷◌, ◌++◌, length, set, map, get_or, cond, not, nat_eq, nat_lt, Bool, true, false, Option, Some, None, refl, sym, ◌∙◌, ap, arith}
+use Rattle.std.specs.Prelude.{◌==◌, option_map, is_some, if◌then◌else◌}
+use Rattle.std.specs.BTreeMap.{insert_entry, is_at}
+use Rattle.std.specs.Map.{lookup}
+use Rattle.std.specs.Ordering.{is_eq}
+use Rattle.std.specs.Ordering.{nat_cmp}
+use Rattle.std.proofs.lemmas.List.{map-append, map-set}
+use Rattle.std.proofs.Math.Seq.{map-set_same}
+use Rattle.std.specs.List.{position, position_or_len, prefix_len, list_any}
+use Rattle.std.specs.Cmp.Lexicographic.{pointwise}
+use Rattle.std.proofs.lemmas.Bool.Decides.{nat_tests}
+use Rattle.pl_base.specs.declared.value.Value.{Value}
+use Rattle.pl_model.specs.Database.{Database, Column, Object, TableObject, Table as TableValue, has, empty_table, define, fits, has_row, with_row, MOST_ROWS, put_in, put_object, put, next_of, next_in}
+use Rattle.pl_session.specs.Tables.{integer_column, table_of, object_of, database_of, Becomes}
+use Rattle.pl_session.specs.declared.tables.Table.{Table}
+
+no_place : (n m : ℕ) → (let o : Option ℕ = cond (nat_lt n m) (Some n) None in o ≡ None) → m ≤ n
+no_place n m is = grind (arith, nat_tests)
+
+is_place : (n m at : ℕ) → (let o : Option ℕ = cond (nat_lt n m) (Some n) None in o ≡ Some at) → (n ≡ at) × (n < m)
+is_place n m at is = (grind (arith, nat_tests), grind (arith, nat_tests))
+
+module _ (name : List ℕ) where
+  abbrev named : Table → Bool
+  named table = pointwise nat_eq table.name name
+
+  has_none : (tables : List Table) → length tables ≤ position_or_len named tables → has name (database_of tables) ≡ false
+  has_none [] long = refl
+  has_none (t ∷ tables) long =
+      (elim (named t) as (λ (b : Bool). (suc (length tables) ≤ cond (not b) (1 + prefix_len (λ (u : Table). not (named u)) tables) 0) → cond b true (has name (database_of tables)) ≡ false)
+      [ true ↦ λ h. absurd (omega (arith, h)) | false ↦ λ h. has_none tables (omega (arith, h)) ]) long
+
+  has_some : (tables : List Table) → position_or_len named tables < length tables → has name (database_of tables) ≡ true
+  has_some [] below = absurd (omega (arith, below))
+  has_some (t ∷ tables) below =
+      (elim (named t) as (λ (b : Bool). (cond (not b) (1 + prefix_len (λ (u : Table). not (named u)) tables) 0 < suc (length tables)) → cond b true (has name (database_of tables)) ≡ true)
+      [ true ↦ λ h. refl | false ↦ λ h. has_some tables (omega (arith, h)) ]) below
+
+  put_none : (id : ℕ) (row : List Value) (tables : List Table) → length tables ≤ position_or_len named tables → put name id row (database_of tables) ≡ None
+  put_none id row [] long = refl
+  put_none id row (t ∷ tables) long =
+      (elim (named t) as (λ (b : Bool). (suc (length tables) ≤ cond (not b) (1 + prefix_len (λ (u : Table). not (named u)) tables) 0)
+      → cond b (option_map (λ (new : Object). new ∷ database_of tables) (put_object id row (object_of t))) (option_map (λ (rest : Database). object_of t ∷ rest) (put name id row (database_of tables))) ≡ None)
+      [ true ↦ λ h. absurd (omega (arith, h)) | false ↦ λ h. ap (λ (o : Option Database). option_map (λ (rest : Database). object_of t ∷ rest) o) (put_none id row tables (omega (arith, h))) ]) long
+
+  put_at : (id : ℕ) (row : List Value) (tables : List Table) (at : ℕ) (d : Table) → at ≡ position_or_len named tables → at < length tables
+      → put name id row (database_of tables) ≡ option_map (λ (n : Object). set (database_of tables) at n) (put_object id row (object_of (get_or tables at d)))
+  put_at id row [] at d is below = absurd (omega (arith, below))
+  put_at id row (t ∷ tables) zero d is below =
+      (elim (named t) as (λ (b : Bool). (0 ≡ cond (not b) (1 + prefix_len (λ (u : Table). not (named u)) tables) 0)
+      → cond b (option_map (λ (new : Object). new ∷ database_of tables) (put_object id row (object_of t))) (option_map (λ (rest : Database). object_of t ∷ rest) (put name id row (database_of tables))) ≡ option_map (λ (n : Object). n ∷ database_of tables) (put_object id row (object_of t)))
+      [ true ↦ λ h. refl | false ↦ λ h. absurd (omega (arith, h)) ]) is
+  put_at id row (t ∷ tables) (suc at) d is below =
+      (elim (named t) as (λ (b : Bool). (suc at ≡ cond (not b) (1 + prefix_len (λ (u : Table). not (named u)) tables) 0)
+      → cond b (option_map (λ (new : Object). new ∷ database_of tables) (put_object id row (object_of t))) (option_map (λ (rest : Database). object_of t ∷ rest) (put name id row (database_of tables)))
+      ≡ option_map (λ (n : Object). object_of t ∷ set (database_of tables) at n) (put_object id row (object_of (get_or tables at d)))) [
+        | true ↦ λ h. absurd (omega (arith, h))
+        | false ↦ λ h. ap (λ (o : Option Database). option_map (λ (rest : Database). object_of t ∷ rest) o) (put_at id row tables at d (omega (arith, h)) (omega (arith, below))) ∙ map_map (λ (n : Object). set (database_of tables) at n) (λ (rest : Database). object_of t ∷ rest) (put_object id row (object_of (get_or tables at d)))
+      ]) is
+    where
+      map_map : {A B C : Type 0} (f : A → B) (g : B → C) (o : Option A) → option_map g (option_map f o) ≡ option_map (λ (x : A). g (f x)) o
+      map_map f g None = refl
+      map_map f g (Some x) = refl
+
+  next_none : (tables : List Table) → length tables ≤ position_or_len named tables → next_of name (database_of tables) ≡ None
+  next_none [] long = refl
+  next_none (t ∷ tables) long =
+      (elim (named t) as (λ (b : Bool). (suc (length tables) ≤ cond (not b) (1 + prefix_len (λ (u : Table). not (named u)) tables) 0)
+      → cond b (let o : Option ℕ = Some t.next in o) (next_of name (database_of tables)) ≡ None)
+      [ true ↦ λ h. absurd (omega (arith, h)) | false ↦ λ h. next_none tables (omega (arith, h)) ]) long
+
+  next_at : (tables : List Table) (at : ℕ) (d : Table) → at ≡ position_or_len named tables → at < length tables → next_of name (database_of tables) ≡ Some (get_or tables at d).next
+  next_at [] at d is below = absurd (omega (arith, below))
+  next_at (t ∷ tables) zero d is below =
+      (elim (named t) as (λ (b : Bool). (0 ≡ cond (not b) (1 + prefix_len (λ (u : Table). not (named u)) tables) 0)
+      → cond b (let o : Option ℕ = Some t.next in o) (next_of name (database_of tables)) ≡ Some t.next)
+      [ true ↦ λ h. refl | false ↦ λ h. absurd (omega (arith, h)) ]) is
+  next_at (t ∷ tables) (suc at) d is below =
+      (elim (named t) as (λ (b : Bool). (suc at ≡ cond (not b) (1 + prefix_len (λ (u : Table). not (named u)) tables) 0)
+      → cond b (let o : Option ℕ = Some t.next in o) (next_of name (database_of tables)) ≡ Some (get_or tables at d).next)
+      [ true ↦ λ h. absurd (omega (arith, h)) | false ↦ λ h. next_at tables at d (omega (arith, h)) (omega (arith, below)) ]) is
+
+  module _ (tables seen : List Table) (same : seen ≡ tables) where
+    at_none : position named seen ≡ None → length tables ≤ position_or_len named tables
+    at_none is = no_place _ _ (ap (λ (l : List Table). position named l) (sym same) ∙ is)
+
+    at_some : (at : ℕ) → position named seen ≡ Some at → (position_or_len named tables ≡ at) × (position_or_len named tables < length tables)
+    at_some at is = is_place _ _ at (ap (λ (l : List Table). position named l) (sym same) ∙ is)
+
+    pub next_absent : position named seen ≡ None → next_of name (database_of tables) ≡ None
+    next_absent is = next_none tables (at_none is)
+
+    pub next_there : (at : ℕ) (d : Table) → position named seen ≡ Some at → next_of name (database_of tables) ≡ Some (get_or tables at d).next
+    next_there at d is = let p = at_some at is in next_at tables at d (sym p.0) (omega (arith, p.0, p.1))
+
+    pub defined : (at : ℕ) (columns : List Column) → position named seen ≡ Some at → define name columns (database_of tables) ≡ None
+    defined at columns is = ap (λ (b : Bool). let o : Option Database = cond b None (Some (database_of tables ++ empty_table name columns ∷ [])) in o) (has_some tables (at_some at is).1)
+
+    pub new_table : (new : List Table) (t : Table) (column : List ℕ) → position named seen ≡ None → new ≡ tables ++ t ∷ [] → t.name ≡ name → t.column ≡ column → t.rows.entries ≡ [] → t.next ≡ 1
+        → define name (integer_column column) (database_of tables) ≡ Some (database_of new)
+    new_table new t column is grown is_name is_column is_rows is_next =
+        let made : object_of t ≡ empty_table name (integer_column column) = λ i. TableObject (record { name = is_name i; columns = integer_column (is_column i); rows = is_rows i; next = is_next i }) in
+        ap (λ (b : Bool). let o : Option Database = cond b None (Some (database_of tables ++ empty_table name (integer_column column) ∷ [])) in o) (has_none tables (at_none is))
+        ∙ ap (λ (l : Database). let o : Option Database = Some l in o) (ap (λ (v : Object). database_of tables ++ v ∷ []) (sym made) ∙ sym (map-append object_of tables (t ∷ [])) ∙ ap (λ (l : List Table). database_of l) (sym grown))
+
+    pub put_absent : (id : ℕ) (row : List Value) → position named seen ≡ None → put name id row (database_of tables) ≡ None
+    put_absent id row is = put_none id row tables (at_none is)
+
+    pub put_there : (id : ℕ) (row : List Value) (at : ℕ) (done : Bool) (t d : Table) → position named seen ≡ Some at → Becomes done (table_of (get_or tables at d)) (table_of t) (put_in id row (table_of (get_or tables at d)))
+        → Becomes done (database_of tables) (database_of (set tables at t)) (put name id row (database_of tables))
+    put_there id row at true t d is became =
+        let p = at_some at is in
+        put_at id row tables at d (sym p.0) (omega (arith, p.0, p.1))
+        ∙ ap (λ (o : Option TableValue). option_map (λ (n : Object). set (database_of tables) at n) (option_map (λ (v : TableValue). TableObject v) o)) became
+        ∙ ap (λ (l : Database). let o : Option Database = Some l in o) (sym (map-set object_of tables at t))
+    put_there id row at false t d is became =
+        let p = at_some at is in (
+          put_at id row tables at d (sym p.0) (omega (arith, p.0, p.1))
+              ∙ ap (λ (o : Option TableValue). option_map (λ (n : Object). set (database_of tables) at n) (option_map (λ (v : TableValue). TableObject v) o)) became.0,
+          map-set_same object_of tables at t d (ap (λ (v : TableValue). TableObject v) became.1),
+        )
+
+-- rows by their ids
+at_same : (id k : ℕ) → is_eq (nat_cmp id k) ≡ (k == id)
+at_same id k = grind (arith, nat_tests)
+
+pub row_found : (id : ℕ) (rows : List (ℕ × List Value)) → is_some (lookup (is_at (nat_cmp id)) rows) ≡ has_row id rows
+row_found id [] = refl
+row_found id (row ∷ rows) =
+    ap (λ (b : Bool). is_some (let o : Option (List Value) = cond b (Some row.1) (lookup (is_at (nat_cmp id)) rows) in o)) (at_same id row.0) ∙ by_test (row.0 == id) row.1 (lookup (is_at (nat_cmp id)) rows) (row_found id rows)
+  where
+    by_test : (b : Bool) (x : List Value) (o : Option (List Value)) → is_some o ≡ has_row id rows → is_some (let p : Option (List Value) = cond b (Some x) o in p) ≡ (b || has_row id rows)
+    by_test true x o is = refl
+    by_test false x o is = is
+
+module _ (id : ℕ) (row : List Value) (table : TableValue) (fit : fits table.columns row ≡ true) where
+  abbrev room : Bool
+  room = has_row id table.rows || nat_lt (length table.rows) MOST_ROWS
+
+  abbrev put_if : Bool → Option TableValue
+  put_if b = if b then Some (record table { rows = with_row id row table.rows; next = max table.next (id + 1) }) else None
+
+  pub put_full : room ≡ false → put_in id row table ≡ None
+  put_full is = λ i. put_if (fit i && is i)
+
+  pub put_done : room ≡ true → (rows : List (ℕ × List Value)) (next : ℕ) → rows ≡ insert_entry nat_cmp table.rows id row → next ≡ max table.next (id + 1) → put_in id row table ≡ Some (record table { rows = rows; next = next })
+  put_done is rows next is_rows is_next =
+      (λ i. put_if (fit i && is i)) ∙ (λ i. let o : Option TableValue = Some (record table { rows = sym is_rows i; next = sym is_next i }) in o)

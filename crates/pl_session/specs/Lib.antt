@@ -1,0 +1,5 @@
+pub mod Halts
+pub mod Tables
+pub mod Replies
+pub mod Plans
+pub mod State

@@ -1,0 +1,23 @@
+-- What the tables in memory stand for.
+use Rattle.std.specs.Prelude.{◌≡◌, ℕ, List, [], ◌∷◌, map, Bool, true, false, Option, Some, None}
+use Rattle.pl_base.specs.declared.types.Ty.TheVariants as type
+use Rattle.pl_model.specs.Database.{Column, Database, Object, TableObject, Table as TableValue}
+use Rattle.pl_session.specs.declared.tables.Table.{Table}
+
+-- one column of the type integer
+abbrev pub integer_column : List ℕ → List Column
+integer_column name = (record { name = name; ty = type.Int }) ∷ []
+
+abbrev pub table_of : Table → TableValue
+table_of table = record { name = table.name; columns = integer_column table.column; rows = table.rows.entries; next = table.next }
+
+abbrev pub object_of : Table → Object
+object_of table = TableObject (table_of table)
+
+abbrev pub database_of : List Table → Database
+database_of tables = map object_of tables
+
+-- done, and the new value is the one wanted; or none is wanted, and the old one stays
+abbrev pub Becomes : {A : Type 0} → Bool → (old new : A) → (wanted : Option A) → Type 0
+Becomes true old new wanted = wanted ≡ Some new
+Becomes false old new wanted = (wanted ≡ None) × (new ≡ old)

@@ -1,0 +1,15 @@
+//! Commands over a store: each is read, done in memory, committed, and then answered.
+#![tactic(auto)]
+
+mod blanks;
+mod halt;
+mod pieces;
+mod plan;
+mod reading;
+mod reply;
+mod state;
+mod tables;
+
+pub use halt::{Ended, Halt, Outcome, StartFail, Stop};
+pub use reply::Reply;
+pub use state::SessionState;

@@ -1,0 +1,166 @@
+//! The database in memory.
+
+ghost use Rattle.std.specs.Prelude.{◌≡◌, ◌==◌, ◌<◌, ◌^◌, ◌||◌, [], ◌∷◌, length, IfOk, nat_eq, nat_lt};
+ghost use Rattle.std.specs.List.{position};
+ghost use Rattle.std.specs.Cmp.Lexicographic.{pointwise};
+ghost use Rattle.pl_base.specs.declared.types.Ty.TheVariants as type;
+ghost use Rattle.pl_model.specs.Database.{fits, has_row, put_in, put, define, next_of};
+ghost use Rattle.pl_base.specs.declared.operation.Op.TheVariants.{Define, Put};
+ghost use Rattle.pl_model.specs.Operation.{apply};
+ghost use Rattle.pl_session.specs.Tables.{integer_column, table_of, database_of, Becomes};
+
+use crate::blanks::trimmed;
+use crate::reading::read_command;
+use pl_base::{Cells, Memory, Name, Op, Value};
+use pl_model::Command;
+use std::alloc::Global;
+use std::collections::BTreeMap;
+
+/// The most rows of a table.
+const MOST_ROWS: usize = 1_000_000;
+
+/// A table with one column, of the type integer.
+#[derive(Drop)]
+pub struct Table {
+    name: Name,
+    column: Name,
+    rows: BTreeMap<u64, Cells>,
+    /// The id that the next inserted row gets.
+    next: u64,
+}
+
+impl Table {
+    // Whether the row was put there: it fits the column, and isn't one too many.
+    fn put(&mut self, id: u64, row: Cells) -> Result<bool, Memory>
+        requires { id < 2 ^ 63 }
+        ensures { IfOk result (λ done. Becomes done (table_of self.old) (table_of self.new) (put_in id row (table_of self.old))) }
+    {
+        if !is_one_integer(row.as_slice()) {
+            return Ok(false);
+        }
+        if !has_room(&self.rows, id) {
+            return Ok(false);
+        }
+        self.rows.insert(id, row)?;
+        self.next = self.next.max(id + 1);
+        Ok(true)
+    }
+}
+
+// Whether a row of this id is there, or one more can be.
+fn has_room(rows: &BTreeMap<u64, Cells>, id: u64) -> bool
+    ensures { result ≡ (has_row id rows.now.entries || nat_lt (length rows.now.entries) MOST_ROWS) }
+{
+    rows.contains_key(&id) || rows.len() < MOST_ROWS
+}
+
+fn is_one_integer(row: &[Value]) -> bool
+    ensures { (column : _) → result ≡ fits (integer_column column) row.now }
+{
+    match row {
+        [Value::Int(_)] => true,
+        _ => false,
+    }
+}
+
+// The place of the table of this name.
+fn place_of(tables: &[Table], name: Name) -> Option<usize>
+    ensures { result ≡ position (λ table. pointwise nat_eq table.name name) tables.now }
+{
+    tables.iter().position(|table| table.name == name)
+}
+
+/// The tables in the order in which they were made.
+#[derive(Drop)]
+pub struct Tables {
+    alloc: Global,
+    list: Vec<Table>,
+}
+
+impl Tables {
+    /// No tables.
+    pub fn new(alloc: Global) -> Tables
+        ensures { database_of result.list.items ≡ [] }
+    {
+        Tables {
+            alloc,
+            list: Vec::new(alloc),
+        }
+    }
+
+    // Whether a row was put into the table of this name.
+    fn put(&mut self, name: Name, id: u64, row: Cells) -> Result<bool, Memory>
+        requires { id < 2 ^ 63 }
+        ensures { IfOk result (λ done. Becomes done (database_of self.old.list.items) (database_of self.new.list.items) (put name id row (database_of self.old.list.items))) }
+    {
+        let Some(at) = place_of(&self.list, name) else {
+            return Ok(false);
+        };
+        let done = self.list[at].put(id, row)?;
+        Ok(done)
+    }
+
+    // Whether a table of this name was made.
+    fn define(&mut self, name: Name, column: Name) -> Result<bool, Memory>
+        ensures { IfOk result (λ done. Becomes done (database_of self.old.list.items) (database_of self.new.list.items) (define name (integer_column column) (database_of self.old.list.items))) }
+    {
+        let None = place_of(&self.list, name) else {
+            return Ok(false);
+        };
+        self.list.push(Table {
+            name,
+            column,
+            rows: BTreeMap::new(self.alloc),
+            next: 1,
+        })?;
+        Ok(true)
+    }
+
+    // Whether the table of a definition was made.
+    fn define_by(&mut self, text: &[u8]) -> Result<bool, Memory>
+        ensures { IfOk result (λ done. Becomes done (database_of self.old.list.items) (database_of self.new.list.items) (apply (Define text.now) (database_of self.old.list.items))) }
+    {
+        if trimmed(text) != text {
+            return Ok(false);
+        }
+        let Some(command) = read_command(self.alloc, text)? else {
+            return Ok(false);
+        };
+        match command {
+            Command::CreateTable { table, column } => self.define(table, column),
+            Command::InsertInto { .. } => Ok(false),
+        }
+    }
+
+    // Whether a row was put, under an id that is one.
+    fn put_by(&mut self, name: Name, id: u64, row: Cells) -> Result<bool, Memory>
+        ensures { IfOk result (λ done. Becomes done (database_of self.old.list.items) (database_of self.new.list.items) (apply (Put name id row) (database_of self.old.list.items))) }
+    {
+        if id == 0 || id >= 1 << 63 {
+            return Ok(false);
+        }
+        self.put(name, id, row)
+    }
+
+    /// Does an operation, if it applies, and says whether it does.
+    pub fn apply(&mut self, op: Op) -> Result<bool, Memory>
+        ensures { IfOk result (λ done. Becomes done (database_of self.old.list.items) (database_of self.new.list.items) (apply op (database_of self.old.list.items))) }
+    {
+        match op {
+            Op::Define { text } => self.define_by(text.as_bytes()),
+            Op::Put { table, id, row } => self.put_by(table, id, row),
+            Op::Remove { .. } => Ok(false),
+            Op::Next { .. } => Ok(false),
+        }
+    }
+
+    /// The next row id of the table of this name.
+    pub fn next_of(&self, name: Name) -> Option<u64>
+        ensures { result ≡ next_of name (database_of self.now.list.items) }
+    {
+        let Some(at) = place_of(&self.list, name) else {
+            return None;
+        };
+        Some(self.list[at].next)
+    }
+}
