@@ -1,0 +1,257 @@
+//! The host over real files.
+ghost use Rattle.std.specs.Prelude.{None, ◌≡◌, ◌≢◌, ◌<◌, ◌≤◌, ◌+◌, ◌^◌, length, IfOk, OnOk, OnErr, IsOk, IsErr, IsSome, ◌↔◌};
+ghost use Rattle.pl_disk.specs.Disk.{Calls, Rises, Says};
+ghost use Rattle.pl_files.specs.Files.{IsAttached, IsSettled, Awaits, view_of, disk_problem_of, say_problem_of, AwaitsIn, AreSynced, IsOneLost, HasLost};
+
+use crate::problem::one_more;
+use crate::store_file::{StoreFile, Unsynced};
+use crate::{Problem, Reason, Subject};
+use pl_disk::{Area, Disk, Failed, Host};
+use std::io::{self, Write};
+
+/// The files of a store.
+#[derive(Drop)]
+pub struct StoreFiles {
+    a: StoreFile,
+    b: StoreFile,
+}
+
+/// A host over the two files of a store, `STORE` and `STORE.alt`, and over standard output. It locks
+/// both files, so a second program on the same store fails.
+#[derive(Drop)]
+pub struct FileHost {
+    rt: HostRuntime,
+    files: Option<StoreFiles>,
+    disk_faults: u64,
+    say_faults: u64,
+    disk_problem: Option<Problem>,
+    say_problem: Option<Problem>,
+}
+
+impl StoreFiles {
+    // Both files of the store, or which failed.
+    fn take(rt: &HostRuntime, store: &str) -> Result<StoreFiles, Problem>
+        ensures awaits { IfOk result (λ files. (area : Area) → AwaitsIn area files) }
+    {
+        let a = match StoreFile::take(rt, store) {
+            Ok(file) => file,
+            Err(reason) => return Err(Problem::of(Area::A, reason)),
+        };
+        match take_alt(rt, store) {
+            Ok(b) => Ok(StoreFiles { a, b }),
+            Err(reason) => Err(Problem::of(Area::B, reason)),
+        }
+    }
+
+    fn file(&self, area: Area) -> &StoreFile {
+        match area {
+            Area::A => &self.a,
+            Area::B => &self.b,
+        }
+    }
+
+    fn write_at(&mut self, area: Area, at: u64, bytes: &[u8]) -> Result<(), Reason>
+        ensures within { OnOk result (at + length bytes.now < 2 ^ 63) }
+        ensures awaits { AwaitsIn area self.new }
+        ensures lost { IsOneLost self.old → IsOneLost self.new }
+    {
+        match area {
+            Area::A => self.a.write_at(at, bytes),
+            Area::B => self.b.write_at(at, bytes),
+        }
+    }
+
+    fn sync(&mut self) -> Result<(), Problem>
+        ensures synced { OnOk result (AreSynced self.new) }
+        ensures lost { OnErr result (IsOneLost self.new) }
+        ensures stays_lost { IsOneLost self.old → IsErr result }
+    {
+        if let Err(reason) = self.a.sync() {
+            return Err(Problem::of(Area::A, reason));
+        }
+        if let Err(reason) = self.b.sync() {
+            return Err(Problem::of(Area::B, reason));
+        }
+        Ok(())
+    }
+}
+
+fn take_alt(rt: &HostRuntime, store: &str) -> Result<StoreFile, Reason>
+    ensures { IfOk result (λ file. file.unsynced ≡ Unsynced.Length) }
+{
+    let path = format!(in rt.alloc(); "{store}.alt")?;
+    StoreFile::take(rt, path.as_str())
+}
+
+impl FileHost {
+    /// A host that has no files yet: each call of the disk fails until `attach` succeeded.
+    pub fn new(rt: HostRuntime) -> FileHost
+        ensures disk_faults { (view_of result).disk_faults ≡ 0 }
+        ensures say_faults { (view_of result).say_faults ≡ 0 }
+        ensures no_files { IsAttached result → ⊥ }
+        ensures no_disk_problem { disk_problem_of result ≡ None }
+        ensures no_say_problem { say_problem_of result ≡ None }
+    {
+        FileHost {
+            rt,
+            files: None,
+            disk_faults: 0,
+            say_faults: 0,
+            disk_problem: None,
+            say_problem: None,
+        }
+    }
+
+    /// What failed first of the disk, if anything did.
+    pub fn disk_problem(&self) -> Option<Problem>
+        ensures { result ≡ disk_problem_of self.now }
+    {
+        self.disk_problem
+    }
+
+    /// What failed first in printing, if anything did.
+    pub fn say_problem(&self) -> Option<Problem>
+        ensures { result ≡ say_problem_of self.now }
+    {
+        self.say_problem
+    }
+
+    // Counts a failure of the disk.
+    fn fail(&mut self, problem: Problem) -> Failed
+        ensures no_fewer { self.old.disk_faults ≤ self.new.disk_faults }
+        ensures rises { Rises self.old.disk_faults self.new.disk_faults }
+        ensures say_faults { self.new.say_faults ≡ self.old.say_faults }
+        ensures files { self.new.files ≡ self.old.files }
+        ensures noted { IsSome (disk_problem_of self.new) }
+    {
+        self.disk_faults = one_more(self.disk_faults);
+        if self.disk_problem.is_none() {
+            self.disk_problem = Some(problem);
+        }
+        Failed
+    }
+
+    // Counts a failure to print.
+    fn fail_to_say(&mut self, reason: Reason) -> Failed
+        ensures disk_faults { self.new.disk_faults ≡ self.old.disk_faults }
+        ensures no_fewer { self.old.say_faults ≤ self.new.say_faults }
+        ensures rises { Rises self.old.say_faults self.new.say_faults }
+        ensures noted { IsSome (say_problem_of self.new) }
+    {
+        self.say_faults = one_more(self.say_faults);
+        if self.say_problem.is_none() {
+            self.say_problem = Some(Problem {
+                subject: Subject::Output,
+                reason,
+            });
+        }
+        Failed
+    }
+}
+
+impl Disk for FileHost {
+    ghost view = { view_of };
+
+    ghost lawful = { λ h told. absurd told };
+
+    fn attach(&mut self, store: &str) -> Result<(), Failed>
+        ensures call { Calls (view_of self.old) (view_of self.new) result }
+        ensures attached { IsOk result ↔ IsAttached self.new }
+        ensures awaits { (area : Area) → Awaits area self.new }
+        ensures noted { IsErr result → IsSome (disk_problem_of self.new) }
+    {
+        self.files = None;
+        match StoreFiles::take(&self.rt, store) {
+            Ok(files) => {
+                self.files = Some(files);
+                Ok(())
+            }
+            Err(problem) => Err(self.fail(problem)),
+        }
+    }
+
+    fn len(&mut self, area: Area) -> Result<u64, Failed>
+        ensures call { Calls (view_of self.old) (view_of self.new) result }
+        ensures bound { IfOk result (λ n. n < 2 ^ 63) }
+        ensures attached { IsOk result → IsAttached self.old }
+        ensures noted { IsErr result → IsSome (disk_problem_of self.new) }
+    {
+        let answer = match &self.files {
+            Some(files) => files.file(area).len(),
+            None => Err(Reason::NotAttached),
+        };
+        match answer {
+            Ok(len) => Ok(len),
+            Err(reason) => Err(self.fail(Problem::of(area, reason))),
+        }
+    }
+
+    fn read_at(&mut self, area: Area, at: u64, into: &mut [u8]) -> Result<(), Failed>
+        ensures call { Calls (view_of self.old) (view_of self.new) result }
+        ensures attached { IsOk result → IsAttached self.old }
+        ensures noted { IsErr result → IsSome (disk_problem_of self.new) }
+    {
+        let answer = match &self.files {
+            Some(files) => files.file(area).read_at(at, into),
+            None => Err(Reason::NotAttached),
+        };
+        match answer {
+            Ok(()) => Ok(()),
+            Err(reason) => Err(self.fail(Problem::of(area, reason))),
+        }
+    }
+
+    fn write_at(&mut self, area: Area, at: u64, bytes: &[u8]) -> Result<(), Failed>
+        ensures call { Calls (view_of self.old) (view_of self.new) result }
+        ensures within { OnOk result (at + length bytes.now < 2 ^ 63) }
+        ensures attached { IsOk result → IsAttached self.old }
+        ensures noted { IsErr result → IsSome (disk_problem_of self.new) }
+        ensures awaits { Awaits area self.new }
+        ensures lost { HasLost self.old → HasLost self.new }
+    {
+        let answer = match &mut self.files {
+            Some(files) => files.write_at(area, at, bytes),
+            None => Err(Reason::NotAttached),
+        };
+        match answer {
+            Ok(()) => Ok(()),
+            Err(reason) => Err(self.fail(Problem::of(area, reason))),
+        }
+    }
+
+    fn sync(&mut self) -> Result<(), Failed>
+        ensures call { Calls (view_of self.old) (view_of self.new) result }
+        ensures settled { OnOk result (IsSettled self.new) }
+        ensures lost { IsErr result → IsAttached self.old → HasLost self.new }
+        ensures stays_lost { HasLost self.old → IsErr result }
+        ensures noted { IsErr result → IsSome (disk_problem_of self.new) }
+    {
+        let answer = match &mut self.files {
+            Some(files) => files.sync(),
+            None => Err(Problem::of(Area::A, Reason::NotAttached)),
+        };
+        match answer {
+            Ok(()) => Ok(()),
+            Err(problem) => Err(self.fail(problem)),
+        }
+    }
+}
+
+// Writes all of it to standard output.
+fn print(rt: &HostRuntime, text: &[u8]) -> io::Result<()> {
+    let mut output = rt.stdout();
+    output.write_all(text)?;
+    output.flush()
+}
+
+impl Host for FileHost {
+    fn say(&mut self, text: &[u8]) -> Result<(), Failed>
+        ensures says { Says text.now (view_of self.old) (view_of self.new) result }
+        ensures noted { IsErr result → IsSome (say_problem_of self.new) }
+    {
+        match print(&self.rt, text) {
+            Ok(()) => Ok(()),
+            Err(error) => Err(self.fail_to_say(error.into())),
+        }
+    }
+}
