@@ -1,0 +1,80 @@
+-- Each pair of a run of the program is covered.
+use Rattle.std.proofs.Common.{◌≡◌, inl, ⊎_elim, ℕ, List, [], ◌∷◌, ◌++◌, Result, Ok, get_or, refl, sym, ◌∙◌, ap, subst}
+use Rattle.std.proofs.lemmas.List.{append-nil, append_cancel_left}
+use Rattle.std.proofs.Common.{append_assoc}
+use Rattle.pl_base.specs.Image.{Image}
+use Rattle.pl_disk.specs.Disk.{View, IsLawful, Runs, Only, Settled}
+use Rattle.pl_disk.proofs.Moments.{each, no_run}
+use Rattle.pl_keeper.specs.Store.{OpensSame}
+use Rattle.pl_meaning.specs.Meaning.{trace}
+use Rattle.pl_model.specs.Covered.{Tells}
+use Rattle.pl_model.specs.Database.{Database}
+use Rattle.pl_model.specs.Opening.{Damage, opens}
+use Rattle.pl_model.specs.Trace.{Event, last_commit}
+use Rattle.pl_model.proofs.Along.{covered, start}
+use Rattle.pl_session.specs.State.{database_in, IsReady, StartPair}
+use Rattle.pl_session.specs.declared.state.SessionState.{SessionState}
+use Rattle.pl_cli.specs.Covers.{CoveredPair, CoveredRun}
+
+-- no sync succeeded
+pub not_settled : (a b : View) (P : List ℕ → Image → Type 0) → b.synced ≡ a.synced → Settled a b P
+not_settled a b P same = record { each = λ t later is. absurd (none a.synced t later (sym same ∙ is)) }
+  where
+    none : (xs : List ℕ) (t : ℕ) (later : List ℕ) → xs ≡ xs ++ t ∷ later → ⊥
+    none xs t later is = cc (append_cancel_left xs [] (t ∷ later) (append-nil xs ∙ is))
+
+-- before the first event
+at_first : (a : View) (events : List Event) (db : Database) (p : List ℕ) (c : Image) → p ≡ a.printed → opens c ≡ Ok db → CoveredPair a events db p c
+at_first a events db p c same is = ([], same ∙ sym (append-nil a.printed), covered events [] c db (start events c db is))
+
+module _ (a b : View) (events : List Event) (db : Database) (lawful : IsLawful a) (told : a.told) (opens_to : opens a.seen ≡ Ok db)
+    (first : Runs a b (StartPair a)) (settled : Settled a b (OpensSame a)) where
+  pending_none : Only a.seen a.may_leave → (p : List ℕ) (c : Image) → b.since a.moment p c → CoveredPair a events db p c
+  pending_none only p c left =
+      let it = each a b (StartPair a) lawful (first.time told) (λ i now. (refl, inl now)) p c left in
+      at_first a events db p c it.0 (⊎_elim (λ was. ap opens (only c was) ∙ opens_to) (λ same. same ∙ opens_to) it.1)
+
+  pub start_covers : CoveredRun a b events db
+  start_covers = record {
+    nothing_pending = pending_none;
+    from_sync = λ t later is p c left. let it = (settled.each t later is).1 p c left in at_first a events db p c it.0 (it.1 ∙ opens_to);
+  }
+
+  head_same : (x y : ℕ) (xs ys : List ℕ) → x ∷ xs ≡ y ∷ ys → x ≡ y
+  head_same x y xs ys is = ap (λ (l : List ℕ). get_or l 0 0) is
+
+  pub script_covers : (d : View) → Runs b d (Tells b.printed events db) → b.printed ≡ a.printed → (t : ℕ) (later : List ℕ) → b.synced ≡ a.synced ++ t ∷ later → CoveredRun a d events db
+  script_covers d second printed t0 later0 was =
+      let mid = first.told told in
+      let then : (p : List ℕ) (c : Image) → Tells b.printed events db p c → CoveredPair a events db p c = λ p c is. (is.0, is.1 ∙ ap (λ (l : List ℕ). l ++ is.0) printed, covered events is.0 c db is.2) in
+      record {
+        nothing_pending = λ only p c left. ⊎_elim (λ before. pending_none only p c before) (λ now. then p c now) ((second.time mid).nothing_else a.moment p c (first.time told).later left);
+        from_sync = λ t later is p c left.
+            let rest = second.synced mid in
+            let same : a.synced ++ t0 ∷ (later0 ++ rest.0) ≡ a.synced ++ t ∷ later = sym (append_assoc a.synced (t0 ∷ later0) rest.0) ∙ ap (λ (l : List ℕ). l ++ rest.0) (sym was) ∙ sym rest.1 ∙ is in
+            let at : t0 ≡ t = head_same t0 t (later0 ++ rest.0) later (append_cancel_left a.synced (t0 ∷ (later0 ++ rest.0)) (t ∷ later) same) in
+            let here = settled.each t0 later0 was in
+            ⊎_elim (λ before. let it = here.1 p c before in at_first a events db p c it.0 (it.1 ∙ opens_to)) (λ now. then p c now)
+            ((second.time mid).nothing_else t0 p c here.0 (subst (λ k. d.since k p c) (sym at) left));
+      }
+
+same_database : (o : Result Database Damage) (x y : Database) → o ≡ Ok x → o ≡ Ok y → x ≡ y
+same_database o x y one two = cc
+
+pub all_covers : (a b d : View) (lawful : IsLawful a) (told : a.told) (first : Runs a b (StartPair a)) → Settled a b (OpensSame a) → b.printed ≡ a.printed → ((t : ℕ) × (later : List ℕ) × (b.synced ≡ a.synced ++ t ∷ later))
+    → (read script : List ℕ) (found db : Database) → opens a.seen ≡ Ok found → opens a.seen ≡ Ok db → read ≡ script → Runs b d (Tells b.printed (trace read found) found) → CoveredRun a d (trace script db) db
+all_covers a b d lawful told first settled printed synced read script found db is_found is_db is_read second =
+    let same = same_database (opens a.seen) found db is_found is_db in
+    script_covers a b (trace script db) db lawful told is_db first settled d
+    (subst (λ (e : Database). Runs b d (Tells b.printed (trace script e) e)) same (subst (λ (l : List ℕ). Runs b d (Tells b.printed (trace l found) found)) is_read second))
+    printed synced.0 synced.1 synced.2
+
+pub all_last : (o : Result Database Damage) (v : View) (state : SessionState) (read script : List ℕ) (found db : Database) → o ≡ Ok found → o ≡ Ok db → read ≡ script → IsReady v state → database_in state ≡ last_commit (trace read found) found
+    → v.told → (c : Image) → v.may_leave c → opens c ≡ Ok (last_commit (trace script db) db)
+all_last o v state read script found db is_found is_db is_read ready is told c left =
+    let same = same_database o found db is_found is_db in
+    ready.opens_to told c left ∙ ap (λ (d : Database). let r : Result Database Damage = Ok d in r) (is ∙ (λ i. last_commit (trace (is_read i) (same i)) (same i)))
+
+-- where nothing was done
+pub idle_covers : (a : View) (events : List Event) (db : Database) → IsLawful a → a.told → opens a.seen ≡ Ok db → CoveredRun a a events db
+idle_covers a events db lawful told is = start_covers a a events db lawful told is (no_run a (StartPair a)) (not_settled a a (OpensSame a) refl)

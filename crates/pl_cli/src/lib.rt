@@ -1,0 +1,12 @@
+//! The program: its words, its store, its script, and the commands.
+#![tactic(auto)]
+
+mod line;
+mod program;
+mod reading;
+#[cfg(test)]
+mod tests;
+
+pub use line::{Line, read_words};
+pub use pl_files::{FileHost, FileSource, Problem};
+pub use program::{Finish, run};

@@ -1,0 +1,141 @@
+//! The program: words, store, script, commands.
+
+ghost use Rattle.std.specs.Prelude.{◌≡◌, ◌≢◌, ◌<◌, ◌^◌, ◌++◌, ◌∷◌, ◌⊎◌, ◌↔◌, List, ℕ, length, map, Some, Ok, Err, IfOk, OnOk, IsErrOf, false, string_bytes};
+ghost use Rattle.pl_base.specs.Image.{Image};
+ghost use Rattle.pl_disk.specs.Disk.{View, Runs, Rises, Settled};
+ghost use Rattle.pl_keeper.specs.Store.{OpensSame};
+ghost use Rattle.pl_meaning.specs.Meaning.{trace};
+ghost use Rattle.pl_model.specs.Database.{Database};
+ghost use Rattle.pl_model.specs.Opening.{Damage, opens};
+ghost use Rattle.pl_model.specs.Trace.{text, last_commit};
+ghost use Rattle.pl_model.specs.Covered.{Tells};
+ghost use Rattle.pl_session.specs.State.{database_in, IsReady, IsOpened, StartPair};
+ghost use Rattle.pl_session.specs.declared.halt.StartFail.TheVariants as start;
+ghost use Rattle.pl_cli.specs.Covers.{CoveredRun};
+ghost use Rattle.pl_cli.specs.Line.{is_line};
+ghost use Rattle.pl_cli.specs.Script.{is_script};
+
+use crate::line::{Line, read_words};
+use crate::reading::{ReadFail, read_script};
+use pl_disk::{Host, Source};
+use pl_session::{Halt, SessionState, StartFail, Stop};
+use std::alloc::Global;
+
+/// How the program ended.
+#[derive(Drop)]
+pub struct Finish {
+    /// 0: the script was read to its end and all was printed. 2: the words are no valid line. 4: the
+    /// disk failed. 5: the source failed. 6: printing failed. 7: the store is malformed. 8: the
+    /// script is too long or has a byte that isn't 1 to 127. 9: there was no memory.
+    pub status: u8,
+}
+
+// Attaches the host and opens its store.
+fn start<H: Host>(alloc: Global, host: &mut H, store: &str) -> Result<SessionState, StartFail>
+    ensures moments { Runs (H.view host.old) (H.view host.new) (StartPair (H.view host.old)) }
+    ensures settled { (H.view host.old).told → Settled (H.view host.old) (H.view host.new) (OpensSame (H.view host.old)) }
+    ensures synced { (H.view host.old).told → OnOk result ((t : ℕ) × (later : List ℕ) × ((H.view host.new).synced ≡ (H.view host.old).synced ++ t ∷ later)) }
+    ensures printed { (H.view host.old).told → (H.view host.new).printed ≡ (H.view host.old).printed }
+    ensures opened { (H.view host.old).told → IsOpened (opens (H.view host.old).seen) result }
+    ensures ready { IfOk result (IsReady (H.view host.new)) }
+    ensures disk { IsErrOf result start.Disk → Rises (H.view host.old).disk_faults (H.view host.new).disk_faults }
+    ensures say_faults { (H.view host.new).say_faults ≡ (H.view host.old).say_faults }
+{
+    if host.attach(store).is_err() {
+        return Err(StartFail::Disk);
+    }
+    SessionState::start(alloc, host)
+}
+
+// The program after its words. The answer is its status.
+fn run_line<H: Host, S: Source>(alloc: Global, host: &mut H, source: &mut S, line: Line<'_>) -> u8
+    ensures covered { (H.view host.old).told → (script : List ℕ) (db : Database) → S.left source.old ≡ Some script → opens (H.view host.old).seen ≡ Ok db
+        → CoveredRun (H.view host.old) (H.view host.new) (trace script db) db }
+    ensures whole { (H.view host.old).told → result ≡ 0 → (script : List ℕ) (db : Database) → S.left source.old ≡ Some script → opens (H.view host.old).seen ≡ Ok db
+        → (H.view host.new).printed ≡ (H.view host.old).printed ++ text (trace script db) }
+    ensures last { (H.view host.old).told → result ≡ 0 → (script : List ℕ) (db : Database) → S.left source.old ≡ Some script → opens (H.view host.old).seen ≡ Ok db
+        → (c : Image) → (H.view host.new).may_leave c → opens c ≡ Ok (last_commit (trace script db) db) }
+    ensures known { (result ≡ 0) ⊎ ((result ≡ 4) ⊎ ((result ≡ 5) ⊎ ((result ≡ 6) ⊎ ((result ≡ 7) ⊎ ((result ≡ 8) ⊎ (result ≡ 9)))))) }
+    ensures disk { result ≡ 4 → Rises (H.view host.old).disk_faults (H.view host.new).disk_faults }
+    ensures source { result ≡ 5 → Rises (S.faults source.old) (S.faults source.new) }
+    ensures say { result ≡ 6 → Rises (H.view host.old).say_faults (H.view host.new).say_faults }
+    ensures damaged { (H.view host.old).told → result ≡ 7 → (damage : Damage) × (opens (H.view host.old).seen ≡ Err damage) }
+    ensures damaged_only { (H.view host.old).told → (damage : Damage) → opens (H.view host.old).seen ≡ Err damage → (result ≡ 7) ⊎ ((result ≡ 4) ⊎ (result ≡ 9)) }
+    ensures refused { (script : List ℕ) → S.left source.old ≡ Some script → result ≡ 8 → is_script script ≡ false }
+    ensures refused_only { (script : List ℕ) → S.left source.old ≡ Some script → is_script script ≡ false → (result ≢ 0) × (result ≢ 6) }
+    ensures quiet { (H.view host.old).told → (result ≡ 7) ⊎ (result ≡ 8) → (H.view host.new).printed ≡ (H.view host.old).printed }
+{
+    let mut state = match start(alloc, host, line.store) {
+        Ok(state) => state,
+        Err(StartFail::Disk) => return 4,
+        Err(StartFail::Damaged { .. }) => return 7,
+        Err(StartFail::Memory) => return 9,
+    };
+    let script = match read_script(alloc, source, line.script) {
+        Ok(script) => script,
+        Err(ReadFail::Fault) => return 5,
+        Err(ReadFail::Refused) => return 8,
+        Err(ReadFail::Memory) => return 9,
+    };
+    run_commands(&mut state, host, &script)
+}
+
+// Runs the script over an open store. The answer is the program's status.
+fn run_commands<H: Host>(state: &mut SessionState, host: &mut H, script: &str) -> u8
+    requires short { length script.now < 2 ^ 32 }
+    requires ready { IsReady (H.view host.old) state.old }
+    ensures moments { Runs (H.view host.old) (H.view host.new) (Tells (H.view host.old).printed (trace script.now (database_in state.old)) (database_in state.old)) }
+    ensures ready { result ≡ 0 → IsReady (H.view host.new) state.new }
+    ensures database { result ≡ 0 → database_in state.new ≡ last_commit (trace script.now (database_in state.old)) (database_in state.old) }
+    ensures printed { (H.view host.old).told → result ≡ 0 → (H.view host.new).printed ≡ (H.view host.old).printed ++ text (trace script.now (database_in state.old)) }
+    ensures known { (result ≡ 0) ⊎ ((result ≡ 4) ⊎ ((result ≡ 6) ⊎ (result ≡ 9))) }
+    ensures disk { result ≡ 4 → Rises (H.view host.old).disk_faults (H.view host.new).disk_faults }
+    ensures say { result ≡ 6 → Rises (H.view host.old).say_faults (H.view host.new).say_faults }
+{
+    match state.run_script(host, script) {
+        Ok(_) => 0,
+        Err(Halt::Stopped(Stop::Disk)) => 4,
+        Err(Halt::Stopped(Stop::Say)) => 6,
+        Err(Halt::Stopped(Stop::Memory)) => 9,
+        Err(Halt::Closed(_)) => unreachable!(),
+    }
+}
+
+/// Runs a script over a store. The words are the program's own name, the store's and the script's.
+pub fn run<H: Host, S: Source>(
+    alloc: Global,
+    words: &[String],
+    host: &mut H,
+    source: &mut S,
+) -> Finish
+    // At every moment, what was printed and what a crash then leaves are covered by the script's trace.
+    ensures covered { (H.view host.old).told → (script : List ℕ) (db : Database) → S.left source.old ≡ Some script → opens (H.view host.old).seen ≡ Ok db
+        → CoveredRun (H.view host.old) (H.view host.new) (trace script db) db }
+
+    // At status 0 the whole text is printed, and every crash leaves the last commit.
+    ensures whole { (H.view host.old).told → result.status ≡ 0 → (script : List ℕ) (db : Database) → S.left source.old ≡ Some script → opens (H.view host.old).seen ≡ Ok db
+        → (H.view host.new).printed ≡ (H.view host.old).printed ++ text (trace script db) }
+    ensures last { (H.view host.old).told → result.status ≡ 0 → (script : List ℕ) (db : Database) → S.left source.old ≡ Some script → opens (H.view host.old).seen ≡ Ok db
+        → (c : Image) → (H.view host.new).may_leave c → opens c ≡ Ok (last_commit (trace script db) db) }
+
+    // Each status has its cause.
+    ensures known { (result.status ≡ 2) ⊎ ((result.status ≡ 0) ⊎ ((result.status ≡ 4) ⊎ ((result.status ≡ 5) ⊎ ((result.status ≡ 6) ⊎ ((result.status ≡ 7) ⊎ ((result.status ≡ 8) ⊎ (result.status ≡ 9))))))) }
+    ensures words { result.status ≡ 2 ↔ is_line (map string_bytes words.now) ≡ false }
+    ensures disk { result.status ≡ 4 → Rises (H.view host.old).disk_faults (H.view host.new).disk_faults }
+    ensures source { result.status ≡ 5 → Rises (S.faults source.old) (S.faults source.new) }
+    ensures say { result.status ≡ 6 → Rises (H.view host.old).say_faults (H.view host.new).say_faults }
+    ensures damaged { (H.view host.old).told → result.status ≡ 7 → (damage : Damage) × (opens (H.view host.old).seen ≡ Err damage) }
+    ensures damaged_only { (H.view host.old).told → (damage : Damage) → opens (H.view host.old).seen ≡ Err damage
+        → (result.status ≡ 7) ⊎ ((result.status ≡ 2) ⊎ ((result.status ≡ 4) ⊎ (result.status ≡ 9))) }
+    ensures refused { (script : List ℕ) → S.left source.old ≡ Some script → result.status ≡ 8 → is_script script ≡ false }
+    ensures refused_only { (script : List ℕ) → S.left source.old ≡ Some script → is_script script ≡ false → (result.status ≢ 0) × (result.status ≢ 6) }
+    // A line, a store or a script that is refused prints nothing.
+    ensures quiet { (H.view host.old).told → (result.status ≡ 2) ⊎ ((result.status ≡ 7) ⊎ (result.status ≡ 8)) → (H.view host.new).printed ≡ (H.view host.old).printed }
+{
+    match read_words(words) {
+        Some(line) => Finish {
+            status: run_line(alloc, host, source, line),
+        },
+        None => Finish { status: 2 },
+    }
+}
