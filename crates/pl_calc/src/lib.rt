@@ -10,7 +10,6 @@ mod functions;
 mod like;
 mod logic;
 mod numbers;
-mod operator;
 mod operators;
 mod reading;
 mod types;
@@ -20,8 +19,8 @@ pub use casts::{assign, cast};
 pub use comparison::compare;
 pub use forms::output_form;
 pub use functions::{Builtin, function, function_named};
-pub use operator::{Arithmetic, Comparison, Operator, Test};
 pub use operators::{binary, unary};
+pub use pl_base::{Arithmetic, Comparison, Operator, Test};
 pub use types::{type_of_nullif, type_of_op, unite};
 
 /// The most bytes of a text.
