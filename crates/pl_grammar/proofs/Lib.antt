@@ -1,0 +1,10 @@
+pub mod Tools
+pub mod Sound
+pub mod Heights
+pub mod Same
+pub mod Sets
+pub mod Begins
+pub mod Complete
+pub mod Theorem
+pub mod Turns
+pub mod DeepSteps

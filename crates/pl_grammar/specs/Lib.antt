@@ -1,0 +1,10 @@
+pub mod Keywords
+pub mod Marks
+pub mod Parser
+pub mod Relations
+pub mod Rule
+pub mod Fit
+pub mod Words
+pub mod Forms
+pub mod Deep
+pub mod Parse

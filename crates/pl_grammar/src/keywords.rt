@@ -1,0 +1,85 @@
+//! How reserved words are spelled.
+
+ghost use Rattle.std.specs.Prelude.{◌≡◌, ◌<◌, ◌≤◌, length};
+ghost use Rattle.pl_grammar.specs.Keywords as spec;
+
+use pl_lex::Keyword;
+
+/// The word in lower case.
+pub fn keyword_text(word: Keyword) -> &'static str
+    ensures text { result.now ≡ spec.keyword_text word }
+    ensures some { 0 < length result.now }
+    ensures short { length result.now ≤ 63 }
+{
+    match word {
+        Keyword::All => "all",
+        Keyword::And => "and",
+        Keyword::As => "as",
+        Keyword::Asc => "asc",
+        Keyword::Begin => "begin",
+        Keyword::Between => "between",
+        Keyword::By => "by",
+        Keyword::Case => "case",
+        Keyword::Cast => "cast",
+        Keyword::Check => "check",
+        Keyword::Coalesce => "coalesce",
+        Keyword::Constraint => "constraint",
+        Keyword::Create => "create",
+        Keyword::Cross => "cross",
+        Keyword::Declare => "declare",
+        Keyword::Default => "default",
+        Keyword::Delete => "delete",
+        Keyword::Desc => "desc",
+        Keyword::Distinct => "distinct",
+        Keyword::Do => "do",
+        Keyword::Else => "else",
+        Keyword::End => "end",
+        Keyword::Execute => "execute",
+        Keyword::Exists => "exists",
+        Keyword::False => "false",
+        Keyword::For => "for",
+        Keyword::Foreign => "foreign",
+        Keyword::From => "from",
+        Keyword::Greatest => "greatest",
+        Keyword::Group => "group",
+        Keyword::Having => "having",
+        Keyword::If => "if",
+        Keyword::In => "in",
+        Keyword::Inner => "inner",
+        Keyword::Insert => "insert",
+        Keyword::Into => "into",
+        Keyword::Is => "is",
+        Keyword::Join => "join",
+        Keyword::Least => "least",
+        Keyword::Left => "left",
+        Keyword::Like => "like",
+        Keyword::Limit => "limit",
+        Keyword::Loop => "loop",
+        Keyword::Not => "not",
+        Keyword::Null => "null",
+        Keyword::Nullif => "nullif",
+        Keyword::Offset => "offset",
+        Keyword::On => "on",
+        Keyword::Or => "or",
+        Keyword::Order => "order",
+        Keyword::Primary => "primary",
+        Keyword::References => "references",
+        Keyword::Returning => "returning",
+        Keyword::Row => "row",
+        Keyword::Select => "select",
+        Keyword::Strict => "strict",
+        Keyword::Table => "table",
+        Keyword::Then => "then",
+        Keyword::To => "to",
+        Keyword::True => "true",
+        Keyword::Union => "union",
+        Keyword::Unique => "unique",
+        Keyword::Update => "update",
+        Keyword::Using => "using",
+        Keyword::Values => "values",
+        Keyword::When => "when",
+        Keyword::Where => "where",
+        Keyword::While => "while",
+        Keyword::With => "with",
+    }
+}
