@@ -1,0 +1,4 @@
+pub mod Trees
+pub mod Grammar
+pub mod Edges
+pub mod Spells
