@@ -1,3 +1,6 @@
 pub mod Fits
+pub mod Step
+pub mod Signs
+pub mod Nots
 pub mod Told
 pub mod Theorem

@@ -1,4 +1,5 @@
 pub mod Trees
 pub mod Grammar
 pub mod Edges
+pub mod Nests
 pub mod Spells

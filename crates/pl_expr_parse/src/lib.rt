@@ -1,11 +1,13 @@
-//! The grammar of expressions and queries: PostgreSQL manual, "Value Expressions" and "SELECT".
-//!
-//! It says which tokens spell a tree, and it is proved that no tokens spell two. The parser that
-//! reads by it is not here yet.
+//! Expressions and queries, read from tokens: PostgreSQL manual, "Value Expressions" and "SELECT".
 #![tactic(auto)]
 
+mod grammar;
+mod levels;
+mod operators;
+mod parse;
 mod parts;
-mod uniqueness;
+mod primary;
+mod queries;
+mod trees;
 
-pub use parts::{Question, Range, Suffix};
-pub use uniqueness::one_tree;
+pub use parse::{parse_expr, parse_query};

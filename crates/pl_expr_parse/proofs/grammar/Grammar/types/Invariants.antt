@@ -1,0 +1,10 @@
+use Rattle.std.proofs.Common.{[], ◌≡◌, ◌-◌, length}
+use Rattle.pl_grammar.specs.Parser.{links_from}
+use Rattle.pl_grammar.specs.Forms.{alone, by}
+use Rattle.pl_grammar.specs.Words.{TO_TYPE}
+use Rattle.pl_expr_parse.specs.Grammar.{TypeName}
+use Rattle.pl_expr_parse.specs.Edges.{reads_part}
+use Rattle.pl_expr_parse.proofs.grammar.Grammar.types.Given as goal
+
+abbrev pub invariant-loop-turn : goal.invariant-loop-turn
+invariant-loop-turn g l = links_from (by TO_TYPE) (reads_part l.self.depth TypeName) alone (length l.fn.tokens) [] l.fn.tokens ≡ links_from (by TO_TYPE) (reads_part l.self.depth TypeName) alone (l._turn-end - l._turn) l.found l.tokens
