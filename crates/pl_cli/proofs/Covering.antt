@@ -3,8 +3,8 @@ use Rattle.std.proofs.Common.{◌≡◌, inl, ⊎_elim, ℕ, List, [], ◌∷◌
 use Rattle.std.proofs.lemmas.List.{append-nil, append_cancel_left}
 use Rattle.std.proofs.Common.{append_assoc}
 use Rattle.pl_base.specs.Image.{Image}
-use Rattle.pl_disk.specs.Disk.{View, IsLawful, Runs, Only, Settled}
-use Rattle.pl_disk.proofs.Moments.{each, no_run}
+use Rattle.pl_disk.specs.Disk.{View, IsLawful, Runs, Only, Settled, renamed}
+use Rattle.pl_disk.proofs.Moments.{each, no_run, unnamed}
 use Rattle.pl_keeper.specs.Store.{OpensSame}
 use Rattle.pl_meaning.specs.Meaning.{trace}
 use Rattle.pl_model.specs.Covered.{Tells}
@@ -28,10 +28,10 @@ at_first : (a : View) (events : List Event) (db : Database) (p : List ℕ) (c : 
 at_first a events db p c same is = ([], same ∙ sym (append-nil a.printed), covered events [] c db (start events c db is))
 
 module _ (a b : View) (events : List Event) (db : Database) (lawful : IsLawful a) (told : a.told) (opens_to : opens a.seen ≡ Ok db)
-    (first : Runs a b (StartPair a)) (settled : Settled a b (OpensSame a)) where
+    (first : Runs (renamed a b) b (StartPair a)) (settled : Settled a b (OpensSame a)) where
   pending_none : Only a.seen a.may_leave → (p : List ℕ) (c : Image) → b.since a.moment p c → CoveredPair a events db p c
   pending_none only p c left =
-      let it = each a b (StartPair a) lawful (first.time told) (λ i now. (refl, inl now)) p c left in
+      let it = each a b (StartPair a) lawful (unnamed a b (StartPair a) first told) (λ i now. (refl, inl now)) p c left in
       at_first a events db p c it.0 (⊎_elim (λ was. ap opens (only c was) ∙ opens_to) (λ same. same ∙ opens_to) it.1)
 
   pub start_covers : CoveredRun a b events db
@@ -61,7 +61,7 @@ module _ (a b : View) (events : List Event) (db : Database) (lawful : IsLawful a
 same_database : (o : Result Database Damage) (x y : Database) → o ≡ Ok x → o ≡ Ok y → x ≡ y
 same_database o x y one two = cc
 
-pub all_covers : (a b d : View) (lawful : IsLawful a) (told : a.told) (first : Runs a b (StartPair a)) → Settled a b (OpensSame a) → b.printed ≡ a.printed → ((t : ℕ) × (later : List ℕ) × (b.synced ≡ a.synced ++ t ∷ later))
+pub all_covers : (a b d : View) (lawful : IsLawful a) (told : a.told) (first : Runs (renamed a b) b (StartPair a)) → Settled a b (OpensSame a) → b.printed ≡ a.printed → ((t : ℕ) × (later : List ℕ) × (b.synced ≡ a.synced ++ t ∷ later))
     → (read script : List ℕ) (found db : Database) → opens a.seen ≡ Ok found → opens a.seen ≡ Ok db → read ≡ script → Runs b d (Tells b.printed (trace read found) found) → CoveredRun a d (trace script db) db
 all_covers a b d lawful told first settled printed synced read script found db is_found is_db is_read second =
     let same = same_database (opens a.seen) found db is_found is_db in

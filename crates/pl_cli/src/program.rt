@@ -1,8 +1,8 @@
 //! The program: words, store, script, commands.
 
-ghost use Rattle.std.specs.Prelude.{◌≡◌, ◌≢◌, ◌<◌, ◌^◌, ◌++◌, ◌∷◌, ◌⊎◌, ◌↔◌, List, ℕ, length, map, Some, Ok, Err, IfOk, OnOk, IsErrOf, false, string_bytes};
+ghost use Rattle.std.specs.Prelude.{◌≡◌, ◌≢◌, ◌<◌, ◌^◌, ◌++◌, ◌∷◌, [], ◌⊎◌, ◌↔◌, List, ℕ, length, map, Some, Ok, Err, IfOk, OnOk, IsErrOf, false, string_bytes};
 ghost use Rattle.pl_base.specs.Image.{Image};
-ghost use Rattle.pl_disk.specs.Disk.{View, Runs, Rises, Settled};
+ghost use Rattle.pl_disk.specs.Disk.{View, Runs, Rises, Settled, renamed};
 ghost use Rattle.pl_keeper.specs.Store.{OpensSame};
 ghost use Rattle.pl_meaning.specs.Meaning.{trace};
 ghost use Rattle.pl_model.specs.Database.{Database};
@@ -32,7 +32,8 @@ pub struct Finish {
 
 // Attaches the host and opens its store.
 fn start<H: Host>(alloc: Global, host: &mut H, store: &str) -> Result<SessionState, StartFail>
-    ensures moments { Runs (H.view host.old) (H.view host.new) (StartPair (H.view host.old)) }
+    ensures named { (IsErrOf result start.Disk → ⊥) → (H.view host.new).named store.now }
+    ensures moments { Runs (renamed (H.view host.old) (H.view host.new)) (H.view host.new) (StartPair (H.view host.old)) }
     ensures settled { (H.view host.old).told → Settled (H.view host.old) (H.view host.new) (OpensSame (H.view host.old)) }
     ensures synced { (H.view host.old).told → OnOk result ((t : ℕ) × (later : List ℕ) × ((H.view host.new).synced ≡ (H.view host.old).synced ++ t ∷ later)) }
     ensures printed { (H.view host.old).told → (H.view host.new).printed ≡ (H.view host.old).printed }
@@ -55,6 +56,8 @@ fn run_line<H: Host, S: Source>(alloc: Global, host: &mut H, source: &mut S, lin
         → (H.view host.new).printed ≡ (H.view host.old).printed ++ text (trace script db) }
     ensures last { (H.view host.old).told → result ≡ 0 → (script : List ℕ) (db : Database) → S.left source.old ≡ Some script → opens (H.view host.old).seen ≡ Ok db
         → (c : Image) → (H.view host.new).may_leave c → opens c ≡ Ok (last_commit (trace script db) db) }
+    ensures store { result ≢ 4 → result ≢ 9 → (H.view host.new).named line.entry.store.now }
+    ensures script { result ≢ 4 → result ≢ 5 → result ≢ 7 → result ≢ 9 → S.named source.new line.entry.script.now }
     ensures known { (result ≡ 0) ⊎ ((result ≡ 4) ⊎ ((result ≡ 5) ⊎ ((result ≡ 6) ⊎ ((result ≡ 7) ⊎ ((result ≡ 8) ⊎ (result ≡ 9)))))) }
     ensures disk { result ≡ 4 → Rises (H.view host.old).disk_faults (H.view host.new).disk_faults }
     ensures source { result ≡ 5 → Rises (S.faults source.old) (S.faults source.new) }
@@ -117,6 +120,12 @@ pub fn run<H: Host, S: Source>(
         → (H.view host.new).printed ≡ (H.view host.old).printed ++ text (trace script db) }
     ensures last { (H.view host.old).told → result.status ≡ 0 → (script : List ℕ) (db : Database) → S.left source.old ≡ Some script → opens (H.view host.old).seen ≡ Ok db
         → (c : Image) → (H.view host.new).may_leave c → opens c ≡ Ok (last_commit (trace script db) db) }
+
+    // The store and the script that are attached are those that the words name.
+    ensures store { (name store script : List ℕ) → map string_bytes words.now ≡ name ∷ store ∷ script ∷ []
+        → result.status ≢ 2 → result.status ≢ 4 → result.status ≢ 9 → (H.view host.new).named store }
+    ensures script { (name store script : List ℕ) → map string_bytes words.now ≡ name ∷ store ∷ script ∷ []
+        → result.status ≢ 2 → result.status ≢ 4 → result.status ≢ 5 → result.status ≢ 7 → result.status ≢ 9 → S.named source.new script }
 
     // Each status has its cause.
     ensures known { (result.status ≡ 2) ⊎ ((result.status ≡ 0) ⊎ ((result.status ≡ 4) ⊎ ((result.status ≡ 5) ⊎ ((result.status ≡ 6) ⊎ ((result.status ≡ 7) ⊎ ((result.status ≡ 8) ⊎ (result.status ≡ 9))))))) }

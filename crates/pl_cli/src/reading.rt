@@ -33,6 +33,7 @@ const MAX_SCRIPT: usize = 16_777_216;
 // All that is left, unless it is too long.
 fn take_all<S: Source>(alloc: Global, source: &mut S) -> Result<Vec<u8>, ReadFail>
     ensures short { IfOk result (λ bytes. length bytes.items ≤ 16777216) }
+    ensures named { (name : List ℕ) → S.named source.old name → S.named source.new name }
     ensures read { (left : List ℕ) → S.left source.old ≡ Some left → IsTaken left result }
     ensures fault { IsErrOf result ReadFail.Fault → Rises (S.faults source.old) (S.faults source.new) }
     ensures faults { S.faults source.old ≤ S.faults source.new }
@@ -59,13 +60,14 @@ fn is_plain(text: &[u8]) -> bool
     text.iter().all(|b| 1 <= *b && *b <= 127)
 }
 
-/// The script that is left in the source, if it is one.
+/// The script that is left in the source of this name, if it is one.
 pub fn read_script<S: Source>(
     alloc: Global,
     source: &mut S,
     script: &str,
 ) -> Result<String, ReadFail>
     ensures short { IfOk result (λ text. length (string_bytes text) ≤ 16777216) }
+    ensures named { (IsErrOf result ReadFail.Fault → ⊥) → S.named source.new script.now }
     ensures read { (left : List ℕ) → S.left source.old ≡ Some left → IsScriptRead left result }
     ensures fault { IsErrOf result ReadFail.Fault → Rises (S.faults source.old) (S.faults source.new) }
     ensures faults { S.faults source.old ≤ S.faults source.new }

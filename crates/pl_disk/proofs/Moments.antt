@@ -2,7 +2,7 @@
 use Rattle.std.proofs.Common.{◌≡◌, ◌++◌, inl, inr, ⊎_elim, ℕ, List, arith, sym, subst, Result, [], ◌∷◌, ap, ◌∙◌, append_assoc, get_or}
 use Rattle.std.proofs.lemmas.List.{append-nil, append_cancel_left}
 use Rattle.pl_base.specs.Image.{Image}
-use Rattle.pl_disk.specs.Disk.{View, IsLawful, Elapses, Calls, Says, Runs, Looks, Keeps, IsPrefix}
+use Rattle.pl_disk.specs.Disk.{View, IsLawful, Elapses, Calls, Says, Runs, Looks, Keeps, IsPrefix, renamed}
 use Rattle.pl_disk.specs.declared.device.Failed.{Failed}
 
 pub stay : (v : View) (P : List ℕ → Image → Type 0) → Elapses v v P
@@ -28,10 +28,11 @@ each a b P lawful time here p c left = ⊎_elim (λ before. let now = lawful.onl
 
 -- a run that has taken no call yet, one that takes one more run, and one whose pairs are known better
 pub no_run : (v : View) (P : List ℕ → Image → Type 0) → Runs v v P
-no_run v P = record { told = λ t. t; told_before = λ t. t; disk_faults = omega arith; say_faults = omega arith; synced = λ t. ([], sym (append-nil v.synced)); time = λ t. stay v P }
+no_run v P = record { named = λ name is. is; told = λ t. t; told_before = λ t. t; disk_faults = omega arith; say_faults = omega arith; synced = λ t. ([], sym (append-nil v.synced)); time = λ t. stay v P }
 
 pub runs_on : (a b d : View) (P Q R : List ℕ → Image → Type 0) → Runs a b P → Runs b d Q → (a.told → (p : List ℕ) (c : Image) → P p c → R p c) → (a.told → (p : List ℕ) (c : Image) → Q p c → R p c) → Runs a d R
 runs_on a b d P Q R first second from_first from_second = record {
+  named = λ name is. second.named name (first.named name is);
   told = λ t. second.told (first.told t);
   told_before = λ t. first.told_before (second.told_before t);
   disk_faults = omega (arith, first.disk_faults, second.disk_faults);
@@ -42,6 +43,7 @@ runs_on a b d P Q R first second from_first from_second = record {
 
 pub run_weaker : (a b : View) (P R : List ℕ → Image → Type 0) → Runs a b P → (a.told → (p : List ℕ) (c : Image) → P p c → R p c) → Runs a b R
 run_weaker a b P R first from_first = record {
+  named = first.named;
   told = first.told;
   told_before = first.told_before;
   disk_faults = first.disk_faults;
@@ -53,6 +55,7 @@ run_weaker a b P R first from_first = record {
 -- one call of a disk, and one of printing
 pub from_call : {T : Type 0} (a b : View) (result : Result T Failed) → Calls a b result → Runs a b (λ p c. (p ≡ a.printed) × b.may_leave c)
 from_call a b result call = record {
+  named = call.named;
   told = call.told;
   told_before = call.told_before;
   disk_faults = call.disk_faults;
@@ -63,6 +66,7 @@ from_call a b result call = record {
 
 pub from_say : {T : Type 0} (text : List ℕ) (a b : View) (result : Result T Failed) → Says text a b result → Runs a b (λ p c. ((said : List ℕ) × IsPrefix said text × (p ≡ a.printed ++ said)) × a.may_leave c)
 from_say text a b result says = record {
+  named = says.named;
   told = says.told;
   told_before = says.told_before;
   disk_faults = omega (arith, says.disk_faults);
@@ -85,6 +89,7 @@ since_sync a b d P lawful told first run here t later is p c left =
 
 pub look : {T : Type 0} (a b : View) (result : Result T Failed) → Calls a b result → (a.told → Keeps a b) → Looks a b
 look a b result call keeps = record {
+  named = call.named;
   told = call.told;
   told_before = call.told_before;
   disk_faults = call.disk_faults;
@@ -96,6 +101,7 @@ look a b result call keeps = record {
 
 pub looks_on : (a b d : View) → Looks a b → Looks b d → Looks a d
 looks_on a b d first second = record {
+  named = λ name is. second.named name (first.named name is);
   told = λ t. second.told (first.told t);
   told_before = λ t. first.told_before (second.told_before t);
   disk_faults = omega (arith, first.disk_faults, second.disk_faults);
@@ -109,3 +115,7 @@ looks_on a b d first second = record {
   };
   time = λ t. goes_on a b d _ _ _ (first.time t) (second.time (first.told t)) (λ p c is. is) (λ p c is. (is.0 ∙ first.printed t, (first.images t).crash c is.1));
 }
+
+-- the moments of a run, whatever name it began under
+pub unnamed : (a b : View) (P : List ℕ → Image → Type 0) → Runs (renamed a b) b P → a.told → Elapses a b P
+unnamed a b P run told = let time = run.time told in record { later = time.later; nothing_else = time.nothing_else; keeps = time.keeps }

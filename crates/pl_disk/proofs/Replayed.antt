@@ -52,6 +52,7 @@ module _ (first files : Image) (printed : List ℕ) (notes : List Note) where
   pub missed : {T : Type 0} (df sf df' sf' : ℕ) (result : Result T Failed) → df ≤ df' → sf ≡ sf' → (IsErr result → Rises df df')
       → Calls (view_of first files printed notes df sf) (view_of first files printed notes df' sf') result
   missed df sf df' sf' result le same cause = record {
+    named = λ name is. is;
     told = λ t. t;
     told_before = λ t. t;
     disk_faults = le;
@@ -65,6 +66,7 @@ module _ (first files : Image) (printed : List ℕ) (notes : List Note) where
   pub said_nothing : {T : Type 0} (text : List ℕ) (df sf df' sf' : ℕ) (result : Result T Failed) → IsErr result → df ≡ df' → sf ≤ sf' → sf' ≡ raised sf
       → Says text (view_of first files printed notes df sf) (view_of first files printed notes df' sf') result
   said_nothing text df sf df' sf' result err same le more = record {
+    named = λ name is. is;
     told = λ t. t;
     told_before = λ t. t;
     disk_faults = same;
@@ -110,6 +112,7 @@ module _ (first files : Image) (printed : List ℕ) (notes : List Note) where
         → ((p : List ℕ) (c : Image) → During state note.change p c → ⊥) → (changed state note.change).printed ≡ state.printed
         → Calls (view_of first files printed notes df sf) (view_of first files' printed later df' sf') result
     done files' df sf df' sf' result same_disk same_say ok none same = record {
+      named = λ name is. is;
       told = λ t. t;
       told_before = λ t. t;
       disk_faults = omega (arith, same_disk);
@@ -202,6 +205,7 @@ module _ (first files : Image) (printed : List ℕ) (notes later : List Note) (c
   pub said : {T : Type 0} (new : List ℕ) (df sf df' sf' : ℕ) (result : Result T Failed) → new ≡ printed ++ text → df ≡ df' → sf ≡ sf' → (IsErr result → ⊥) → OnOk result (new ≡ printed ++ text)
       → Says text (view_of first files printed notes df sf) (view_of first files new later df' sf') result
   said new df sf df' sf' result is_new same_disk same_say ok whole = record {
+    named = λ name is. is;
     told = λ t. t;
     told_before = λ t. t;
     disk_faults = same_disk;

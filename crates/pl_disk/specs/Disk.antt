@@ -12,9 +12,11 @@ use Rattle.pl_base.specs.Image.{Image, file, other}
 use Rattle.pl_base.specs.declared.area.Area.{Area}
 use Rattle.pl_disk.specs.declared.device.Failed.{Failed}
 
--- What is known of a host between two calls: its files, what it printed, what a crash may leave or might have left, and how
--- often it failed.
+-- What is known of a host between two calls: its files and their name, what it printed, what a crash may leave or might have left,
+-- and how often it failed.
 pub record View : Type 1 where
+  -- the store that is attached goes by this name. A store in memory goes by every name
+  pub named : List ℕ → Type 0
   -- a fact: that the contents and moments are told. Of a host in memory it holds. Of one over real files it doesn't, and the
   -- clauses that begin with it say nothing of that host
   pub told : Type 0
@@ -44,6 +46,14 @@ pub record IsLawful (v : View) : Type 0 where
   -- and the only one since itself
   pub only_now : (p : List ℕ) (c : Image) → v.since v.moment p c → (p ≡ v.printed) × v.may_leave c
 
+-- The name stays.
+abbrev pub KeepsName : View → View → Type 0
+KeepsName old new = (name : List ℕ) → old.named name → new.named name
+
+-- A view from before `attach`, under the name that it gave.
+abbrev pub renamed : View → View → View
+renamed old new = record old { named = new.named }
+
 -- Time goes on: what was true at some moment since t stays so, and each new pair of a text and files has P.
 pub record Elapses (old new : View) (P : List ℕ → Image → Type 0) : Type 0 where
   pub later : old.moment ≤ new.moment
@@ -57,6 +67,7 @@ Rises old new = old < 2 ^ 64 - 1 → old < new
 -- Each call of a disk, whatever it does to the files: it prints nothing, a count never falls, and it fails only where the
 -- disk's count rose. At each moment within it a crash leaves what one after it may leave.
 pub record Calls {T : Type 0} (old new : View) (result : Result T Failed) : Type 0 where
+  pub named : KeepsName old new
   pub told : old.told → new.told
   pub told_before : new.told → old.told
   pub disk_faults : old.disk_faults ≤ new.disk_faults
@@ -113,6 +124,7 @@ IsPrefix xs ys = (rest : List ℕ) × (xs ++ rest ≡ ys)
 
 -- Printing a text: the files stay, at each moment a front of the text is printed, and after Ok all of it.
 pub record Says {T : Type 0} (text : List ℕ) (old new : View) (result : Result T Failed) : Type 0 where
+  pub named : KeepsName old new
   pub told : old.told → new.told
   pub told_before : new.told → old.told
   pub disk_faults : old.disk_faults ≡ new.disk_faults
@@ -126,6 +138,7 @@ pub record Says {T : Type 0} (text : List ℕ) (old new : View) (result : Result
 -- What a run of calls does: the counts don't fall, and at each moment that it adds the printed text and what a crash may leave
 -- have P. Upper layers say what they do in this form, each with a P in its own words.
 pub record Runs (old new : View) (P : List ℕ → Image → Type 0) : Type 0 where
+  pub named : KeepsName old new
   pub told : old.told → new.told
   pub told_before : new.told → old.told
   pub disk_faults : old.disk_faults ≤ new.disk_faults
@@ -136,6 +149,7 @@ pub record Runs (old new : View) (P : List ℕ → Image → Type 0) : Type 0 wh
 -- Of a host that tells nothing of its files or of what it printed: only its counts are known.
 abbrev pub untold : ℕ → View
 untold faults = record {
+  named = λ name. Unit {0};
   told = ⊥;
   seen = record { a = []; b = [] };
   may_leave = λ c. ⊥;
@@ -149,6 +163,7 @@ untold faults = record {
 
 -- What a run of calls does that only looks: it prints nothing and the files stay.
 pub record Looks (old new : View) : Type 0 where
+  pub named : KeepsName old new
   pub told : old.told → new.told
   pub told_before : new.told → old.told
   pub disk_faults : old.disk_faults ≤ new.disk_faults

@@ -95,6 +95,7 @@ pub record IsKept (first files : Image) (printed : List ℕ) (notes : List Note)
 -- What is known of a host that began with these files and has these now.
 abbrev pub view_of : Image → Image → List ℕ → List Note → ℕ → ℕ → View
 view_of first files printed notes disk_faults say_faults = record {
+  named = λ name. Unit {0};
   told = Unit {0};
   seen = files;
   may_leave = λ c. IsImage (replay (start first) notes) c;

@@ -1,7 +1,7 @@
 //! A store of two files as the program sees it: what a read gives, and what a crash may leave.
 ghost use Rattle.std.specs.Prelude.{◌≡◌, ◌≤◌, ◌<◌, ◌+◌, ◌^◌, List, ℕ, length, take, drop, IfOk, OnOk, OnErr, ◌++◌, ◌∷◌, []};
 ghost use Rattle.pl_base.specs.Image.{Image, file};
-ghost use Rattle.pl_disk.specs.Disk.{View, IsLawful, Calls, Keeps, Follows, TornAt, Only, Written, Says};
+ghost use Rattle.pl_disk.specs.Disk.{View, IsLawful, Calls, Keeps, Follows, TornAt, Only, Written, Says, renamed};
 
 use pl_base::Area;
 
@@ -15,9 +15,11 @@ pub trait Disk {
     /// What is known of the store, of what was printed, and of the counts.
     ghost view: { Self → View };
 
-    /// Takes the store of this name, before any other call. It changes no bytes.
+    /// Takes the store of this name, before any other call. It changes no bytes. Each later call keeps
+    /// the name.
     fn attach(&mut self, store: &str) -> Result<(), Failed>
-        ensures call { Calls (view self.old) (view self.new) result }
+        ensures named { OnOk result ((view self.new).named store.now) }
+        ensures call { Calls (renamed (view self.old) (view self.new)) (view self.new) result }
         ensures images { (view self.old).told → Keeps (view self.old) (view self.new) };
 
     /// The length of a file in bytes.

@@ -1,5 +1,5 @@
 -- What a host and a script over real files know: that the files are open, what failed, and whether a sync has something left to do.
-use Rattle.std.specs.Prelude.{◌≡◌, ◌≢◌, ◌⊎◌, ℕ, Option, IsSome, IsSomeAnd, IfSome}
+use Rattle.std.specs.Prelude.{◌≡◌, ◌≢◌, ◌⊎◌, ℕ, List, Option, IsSome, IsSomeAnd, IfSome, string_bytes}
 use Rattle.pl_base.specs.declared.area.Area.{Area}
 use Rattle.pl_base.specs.declared.area.Area.TheVariants.{A, B}
 use Rattle.pl_disk.specs.Disk.{View, untold}
@@ -7,6 +7,7 @@ use Rattle.pl_files.specs.declared.host.FileHost.{FileHost}
 use Rattle.pl_files.specs.declared.host.StoreFiles.{StoreFiles}
 use Rattle.pl_files.specs.declared.problem.Problem.{Problem}
 use Rattle.pl_files.specs.declared.source.FileSource.{FileSource}
+use Rattle.pl_files.specs.declared.source.ScriptFile.{ScriptFile}
 use Rattle.pl_files.specs.declared.store_file.StoreFile.{StoreFile}
 use Rattle.pl_files.specs.declared.store_file.Unsynced.TheVariants.{Nothing, Lost}
 
@@ -31,9 +32,16 @@ abbrev pub AwaitsIn : Area → StoreFiles → Type 0
 AwaitsIn A files = files.a.unsynced ≢ Nothing
 AwaitsIn B files = files.b.unsynced ≢ Nothing
 
--- What is known of the host: how often it failed.
+-- Both files were opened under this name of the store.
+abbrev pub AreNamed : List ℕ → StoreFiles → Type 0
+AreNamed name files = string_bytes files.name ≡ name
+
+-- What is known of the host: the name of the store that it holds, and how often it failed.
 abbrev pub view_of : FileHost → View
-view_of host = record (untold host.disk_faults) { say_faults = host.say_faults }
+view_of host = record (untold host.disk_faults) {
+  named = λ name. IsSomeAnd host.files (AreNamed name);
+  say_faults = host.say_faults;
+}
 
 -- The host holds both files, each open and locked.
 abbrev pub IsAttached : FileHost → Type 0
@@ -60,7 +68,11 @@ Awaits area host = IfSome host.files (AwaitsIn area)
 
 -- The script is open.
 abbrev pub IsOpen : FileSource → Type 0
-IsOpen source = IsSome source.file
+IsOpen source = IsSome source.script
+
+-- It is open under this name.
+abbrev pub IsNamed : FileSource → List ℕ → Type 0
+IsNamed source name = IsSomeAnd source.script (λ script. string_bytes script.name ≡ name)
 
 -- How often the script failed, and what first.
 abbrev pub faults_of : FileSource → ℕ

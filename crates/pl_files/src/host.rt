@@ -1,7 +1,7 @@
 //! The host over real files.
-ghost use Rattle.std.specs.Prelude.{None, ◌≡◌, ◌≢◌, ◌<◌, ◌≤◌, ◌+◌, ◌^◌, length, IfOk, OnOk, OnErr, IsOk, IsErr, IsSome, ◌↔◌};
-ghost use Rattle.pl_disk.specs.Disk.{Calls, Rises, Says};
-ghost use Rattle.pl_files.specs.Files.{IsAttached, IsSettled, Awaits, view_of, disk_problem_of, say_problem_of, AwaitsIn, AreSynced, IsOneLost, HasLost};
+ghost use Rattle.std.specs.Prelude.{None, string_bytes, ◌≡◌, ◌≢◌, ◌<◌, ◌≤◌, ◌+◌, ◌^◌, length, IfOk, OnOk, OnErr, IsOk, IsErr, IsSome, ◌↔◌};
+ghost use Rattle.pl_disk.specs.Disk.{Calls, Rises, Says, renamed};
+ghost use Rattle.pl_files.specs.Files.{IsAttached, IsSettled, Awaits, view_of, AreNamed, disk_problem_of, say_problem_of, AwaitsIn, AreSynced, IsOneLost, HasLost};
 
 use crate::problem::one_more;
 use crate::store_file::{StoreFile, Unsynced};
@@ -9,9 +9,10 @@ use crate::{Problem, Reason, Subject};
 use pl_disk::{Area, Disk, Failed, Host};
 use std::io::{self, Write};
 
-/// The files of a store.
+/// The files of a store, and the name that they were opened under.
 #[derive(Drop)]
 pub struct StoreFiles {
+    name: String,
     a: StoreFile,
     b: StoreFile,
 }
@@ -31,15 +32,20 @@ pub struct FileHost {
 impl StoreFiles {
     // Both files of the store, or which failed.
     fn take(rt: &HostRuntime, store: &str) -> Result<StoreFiles, Problem>
+        ensures named { IfOk result (AreNamed store.now) }
         ensures awaits { IfOk result (λ files. (area : Area) → AwaitsIn area files) }
     {
         let a = match StoreFile::take(rt, store) {
             Ok(file) => file,
             Err(reason) => return Err(Problem::of(Area::A, reason)),
         };
-        match take_alt(rt, store) {
-            Ok(b) => Ok(StoreFiles { a, b }),
-            Err(reason) => Err(Problem::of(Area::B, reason)),
+        let b = match take_alt(rt, store) {
+            Ok(file) => file,
+            Err(reason) => return Err(Problem::of(Area::B, reason)),
+        };
+        match String::from_str(rt.alloc(), store) {
+            Ok(name) => Ok(StoreFiles { name, a, b }),
+            Err(error) => Err(Problem::of(Area::A, error.into())),
         }
     }
 
@@ -51,6 +57,7 @@ impl StoreFiles {
     }
 
     fn write_at(&mut self, area: Area, at: u64, bytes: &[u8]) -> Result<(), Reason>
+        ensures name { self.new.name ≡ self.old.name }
         ensures within { OnOk result (at + length bytes.now < 2 ^ 63) }
         ensures awaits { AwaitsIn area self.new }
         ensures lost { IsOneLost self.old → IsOneLost self.new }
@@ -62,6 +69,7 @@ impl StoreFiles {
     }
 
     fn sync(&mut self) -> Result<(), Problem>
+        ensures name { self.new.name ≡ self.old.name }
         ensures synced { OnOk result (AreSynced self.new) }
         ensures lost { OnErr result (IsOneLost self.new) }
         ensures stays_lost { IsOneLost self.old → IsErr result }
@@ -133,6 +141,7 @@ impl FileHost {
 
     // Counts a failure to print.
     fn fail_to_say(&mut self, reason: Reason) -> Failed
+        ensures files { self.new.files ≡ self.old.files }
         ensures disk_faults { self.new.disk_faults ≡ self.old.disk_faults }
         ensures no_fewer { self.old.say_faults ≤ self.new.say_faults }
         ensures rises { Rises self.old.say_faults self.new.say_faults }
@@ -155,7 +164,8 @@ impl Disk for FileHost {
     ghost lawful = { λ h told. absurd told };
 
     fn attach(&mut self, store: &str) -> Result<(), Failed>
-        ensures call { Calls (view_of self.old) (view_of self.new) result }
+        ensures named { OnOk result ((view_of self.new).named store.now) }
+        ensures call { Calls (renamed (view_of self.old) (view_of self.new)) (view_of self.new) result }
         ensures attached { IsOk result ↔ IsAttached self.new }
         ensures awaits { (area : Area) → Awaits area self.new }
         ensures noted { IsErr result → IsSome (disk_problem_of self.new) }

@@ -1,7 +1,7 @@
 //! The script in a real file.
-ghost use Rattle.std.specs.Prelude.{◌≡◌, ◌≤◌, None, length, IfOk, IsOk, IsErr, IsSome, ◌↔◌};
+ghost use Rattle.std.specs.Prelude.{◌≡◌, ◌≤◌, None, List, ℕ, length, IfOk, OnOk, IsOk, IsErr, IsSome, ◌↔◌, string_bytes};
 ghost use Rattle.pl_disk.specs.Disk.{Rises};
-ghost use Rattle.pl_files.specs.Files.{IsOpen, faults_of, problem_of};
+ghost use Rattle.pl_files.specs.Files.{IsNamed, IsOpen, faults_of, problem_of};
 
 use crate::problem::one_more;
 use crate::{Problem, Reason, Subject};
@@ -9,11 +9,18 @@ use pl_disk::{Failed, Source};
 use std::fs::File;
 use std::io::Read;
 
+// The file of a script, and the name that it was opened under.
+#[derive(Drop)]
+struct ScriptFile {
+    name: String,
+    file: File,
+}
+
 /// A script that is read from a file.
 #[derive(Drop)]
 pub struct FileSource {
     rt: HostRuntime,
-    file: Option<File>,
+    script: Option<ScriptFile>,
     faults: u64,
     problem: Option<Problem>,
 }
@@ -27,7 +34,7 @@ impl FileSource {
     {
         FileSource {
             rt,
-            file: None,
+            script: None,
             faults: 0,
             problem: None,
         }
@@ -44,7 +51,7 @@ impl FileSource {
     fn fail(&mut self, reason: Reason) -> Failed
         ensures no_fewer { faults_of self.old ≤ faults_of self.new }
         ensures rises { Rises (faults_of self.old) (faults_of self.new) }
-        ensures file { self.new.file ≡ self.old.file }
+        ensures script { self.new.script ≡ self.old.script }
         ensures noted { IsSome (problem_of self.new) }
     {
         self.faults = one_more(self.faults);
@@ -58,45 +65,60 @@ impl FileSource {
     }
 }
 
-fn read(file: &mut Option<File>, into: &mut [u8]) -> Result<usize, Reason>
-    ensures within { IfOk result (λ n. n ≤ length into.old) }
-    ensures attached { IsOk result → IsSome file.old }
-{
-    match file {
-        Some(file) => Ok(file.read(into)?),
-        None => Err(Reason::NotAttached),
+impl ScriptFile {
+    fn take(rt: &HostRuntime, name: &str) -> Result<ScriptFile, Reason>
+        ensures named { IfOk result (λ script. string_bytes script.name ≡ name.now) }
+    {
+        let file = File::open(rt, name)?;
+        let name = String::from_str(rt.alloc(), name)?;
+        Ok(ScriptFile { name, file })
+    }
+
+    fn read(&mut self, into: &mut [u8]) -> Result<usize, Reason>
+        ensures within { IfOk result (λ n. n ≤ length into.old) }
+        ensures name { self.new.name ≡ self.old.name }
+    {
+        Ok(self.file.read(into)?)
     }
 }
 
 impl Source for FileSource {
     ghost left = { λ _. None };
 
+    ghost named = { IsNamed };
+
     ghost faults = { faults_of };
 
     fn attach(&mut self, script: &str) -> Result<(), Failed>
+        ensures named { OnOk result (IsNamed self.new script.now) }
         ensures faults { faults_of self.old ≤ faults_of self.new }
         ensures cause { IsErr result → Rises (faults_of self.old) (faults_of self.new) }
         ensures attached { IsOk result ↔ IsOpen self.new }
         ensures noted { IsErr result → IsSome (problem_of self.new) }
     {
-        self.file = None;
-        match File::open(&self.rt, script) {
-            Ok(file) => {
-                self.file = Some(file);
+        self.script = None;
+        match ScriptFile::take(&self.rt, script) {
+            Ok(script) => {
+                self.script = Some(script);
                 Ok(())
             }
-            Err(error) => Err(self.fail(error.into())),
+            Err(reason) => Err(self.fail(reason)),
         }
     }
 
     fn take(&mut self, into: &mut [u8]) -> Result<usize, Failed>
+        ensures named { (name : List ℕ) → IsNamed self.old name → IsNamed self.new name }
         ensures within { IfOk result (λ n. n ≤ length into.old) }
         ensures faults { faults_of self.old ≤ faults_of self.new }
         ensures cause { IsErr result → Rises (faults_of self.old) (faults_of self.new) }
         ensures attached { IsOk result → IsOpen self.old }
         ensures noted { IsErr result → IsSome (problem_of self.new) }
     {
-        match read(&mut self.file, into) {
+        let answer = match &mut self.script {
+            Some(script) => script.read(into),
+            None => Err(Reason::NotAttached),
+        };
+        match answer {
             Ok(count) => Ok(count),
             Err(reason) => Err(self.fail(reason)),
         }

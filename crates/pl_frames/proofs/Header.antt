@@ -76,6 +76,7 @@ Steps step v p c = (p ≡ v.printed) × After step v.may_leave c
 module _ (area : Area) where
   looked : (a b : View) → Looks a b → Runs a b (λ p c. (p ≡ a.printed) × a.may_leave c)
   looked a b looks = record {
+    named = looks.named;
     told = looks.told;
     told_before = looks.told_before;
     disk_faults = looks.disk_faults;

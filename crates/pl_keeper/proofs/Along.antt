@@ -139,6 +139,7 @@ long_header file is = grind (arith, nat_tests)
 
 pub no_look : (v : View) → Looks v v
 no_look v = record {
+  named = λ name is. is;
   told = λ t. t;
   told_before = λ t. t;
   disk_faults = omega arith;

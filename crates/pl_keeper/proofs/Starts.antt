@@ -87,6 +87,7 @@ module _ (file : List ℕ) (open_is : is_open file ≡ true) (has : has_header f
 -- whole runs
 pub looks_same : (a d : View) → (a.told → Only a.seen a.may_leave) → Looks a d → Runs a d (OpensSame a)
 looks_same a d only looks = record {
+  named = looks.named;
   told = looks.told;
   told_before = looks.told_before;
   disk_faults = looks.disk_faults;

@@ -53,6 +53,8 @@ impl Source for MemorySource {
 
     ghost left = { λ s. Some (left_of s) };
 
+    ghost named = { λ s name. Unit {0} };
+
     ghost faults = { λ s. script_faults s };
 
     fn attach(&mut self, script: &str) -> Result<(), Failed>
