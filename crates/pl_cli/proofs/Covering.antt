@@ -1,5 +1,5 @@
 -- Each pair of a run of the program is covered.
-use Rattle.std.proofs.Common.{◌≡◌, inl, ⊎_elim, ℕ, List, [], ◌∷◌, ◌++◌, Result, Ok, get_or, refl, sym, ◌∙◌, ap, subst}
+use Rattle.std.proofs.Common.{◌≡◌, ◌<◌, ◌⊎◌, arith, inl, inr, ⊎_elim, ℕ, List, [], ◌∷◌, ◌++◌, Result, Ok, Some, None, get_or, refl, sym, ◌∙◌, ap, subst}
 use Rattle.std.proofs.lemmas.List.{append-nil, append_cancel_left}
 use Rattle.std.proofs.Common.{append_assoc}
 use Rattle.pl_base.specs.Image.{Image}
@@ -10,11 +10,14 @@ use Rattle.pl_meaning.specs.Meaning.{trace}
 use Rattle.pl_model.specs.Covered.{Tells}
 use Rattle.pl_model.specs.Database.{Database}
 use Rattle.pl_model.specs.Opening.{Damage, opens}
-use Rattle.pl_model.specs.Trace.{Event, last_commit}
+use Rattle.pl_model.specs.Trace.{Event, Said, last_commit}
 use Rattle.pl_model.proofs.Along.{covered, start}
 use Rattle.pl_session.specs.State.{database_in, IsReady, StartPair}
 use Rattle.pl_session.specs.declared.state.SessionState.{SessionState}
 use Rattle.pl_cli.specs.Covers.{CoveredPair, CoveredRun}
+use Rattle.pl_cli.specs.Line.{Asked, Word, asked}
+use Rattle.pl_cli.specs.Printed.{IsDueOf, refusal_line}
+use Rattle.pl_cli.specs.Script.{IsFirst, IsRefusedAt, IsScript, Spoils}
 
 -- no sync succeeded
 pub not_settled : (a b : View) (P : List ℕ → Image → Type 0) → b.synced ≡ a.synced → Settled a b P
@@ -62,11 +65,11 @@ same_database : (o : Result Database Damage) (x y : Database) → o ≡ Ok x →
 same_database o x y one two = cc
 
 pub all_covers : (a b d : View) (lawful : IsLawful a) (told : a.told) (first : Runs (renamed a b) b (StartPair a)) → Settled a b (OpensSame a) → b.printed ≡ a.printed → ((t : ℕ) × (later : List ℕ) × (b.synced ≡ a.synced ++ t ∷ later))
-    → (read script : List ℕ) (found db : Database) → opens a.seen ≡ Ok found → opens a.seen ≡ Ok db → read ≡ script → Runs b d (Tells b.printed (trace read found) found) → CoveredRun a d (trace script db) db
-all_covers a b d lawful told first settled printed synced read script found db is_found is_db is_read second =
+    → (found db : Database) → opens a.seen ≡ Ok found → opens a.seen ≡ Ok db → (events : Database → List Event) → Runs b d (Tells b.printed (events found) found) → CoveredRun a d (events db) db
+all_covers a b d lawful told first settled printed synced found db is_found is_db events second =
     let same = same_database (opens a.seen) found db is_found is_db in
-    script_covers a b (trace script db) db lawful told is_db first settled d
-    (subst (λ (e : Database). Runs b d (Tells b.printed (trace script e) e)) same (subst (λ (l : List ℕ). Runs b d (Tells b.printed (trace l found) found)) is_read second))
+    script_covers a b (events db) db lawful told is_db first settled d
+    (subst (λ (e : Database). Runs b d (Tells b.printed (events e) e)) same second)
     printed synced.0 synced.1 synced.2
 
 pub all_last : (o : Result Database Damage) (v : View) (state : SessionState) (read script : List ℕ) (found db : Database) → o ≡ Ok found → o ≡ Ok db → read ≡ script → IsReady v state → database_in state ≡ last_commit (trace read found) found
@@ -75,6 +78,39 @@ all_last o v state read script found db is_found is_db is_read ready is told c l
     let same = same_database o found db is_found is_db in
     ready.opens_to told c left ∙ ap (λ (d : Database). let r : Result Database Damage = Ok d in r) (is ∙ (λ i. last_commit (trace (is_read i) (same i)) (same i)))
 
+-- where one line was said before the store was attached
+pub line_covers : (a d : View) (line : List ℕ) (db : Database) → IsLawful a → a.told → opens a.seen ≡ Ok db → d.synced ≡ a.synced
+    → ((db : Database) → (a.told → (c : Image) → a.may_leave c → opens c ≡ Ok db) → Runs a d (Tells a.printed (Said line ∷ []) db)) → CoveredRun a d (Said line ∷ []) db
+line_covers a d line db lawful told is quick moments = record {
+  nothing_pending = λ only p c left.
+      let each_opens : (i : Image) → a.may_leave i → opens i ≡ Ok db = λ i may. ap opens (only i may) ∙ is in
+      let run = moments db (λ t i may. each_opens i may) in
+      let it = each a d (Tells a.printed (Said line ∷ []) db) lawful (run.time told) (λ i may. ([], sym (append-nil a.printed), start (Said line ∷ []) i db (each_opens i may))) p c left in
+      (it.0, it.1, covered (Said line ∷ []) it.0 c db it.2);
+  from_sync = λ t later now p c left. absurd (((not_settled a d (λ p c. ⊥) quick).each t later now).1 p c left);
+}
+
 -- where nothing was done
 pub idle_covers : (a : View) (events : List Event) (db : Database) → IsLawful a → a.told → opens a.seen ≡ Ok db → CoveredRun a a events db
 idle_covers a events db lawful told is = start_covers a a events db lawful told is (no_run a (StartPair a)) (not_settled a a (OpensSame a) refl)
+
+-- a script that is refused at one offset is refused at no other, and is none
+pub one_first : (P : ℕ → Type 0) (a b : ℕ) → IsFirst P a → IsFirst P b → a ≡ b
+one_first P a b one two = ⊎_elim (λ below. absurd (two.1 a below one.0)) (λ rest. ⊎_elim (λ above. absurd (one.1 b above two.0)) (λ same. same) rest) (order a b)
+  where
+    order : (m n : ℕ) → (m < n) ⊎ ((n < m) ⊎ (m ≡ n))
+    order m n = grind arith
+
+pub refused_due : (script : List ℕ) (db : Database) (events : List Event) (at : ℕ) → IsRefusedAt script at → IsDueOf script db events → Said (refusal_line at) ∷ [] ≡ events
+refused_due script db events at refused (inl due) = ap (λ (k : ℕ). Said (refusal_line k) ∷ []) (one_first (Spoils script) at due.0 refused due.1) ∙ sym due.2
+refused_due script db events at refused (inr due) = absurd (due.0 at refused.0)
+
+pub script_due : (script : List ℕ) (db : Database) (events : List Event) → IsScript script → IsDueOf script db events → trace script db ≡ events
+script_due script db events is (inl due) = absurd (is due.0 due.1.0)
+script_due script db events is (inr due) = sym due.1
+
+pub is_line : {X : Type 0} (words : List Word) (asks : Asked) → asked words ≡ Some asks → asked words ≡ None → X
+is_line words asks some none = absurd (never asks (sym some ∙ none))
+  where
+    never : (asks : Asked) → Some asks ≡ None → ⊥
+    never asks is = cc

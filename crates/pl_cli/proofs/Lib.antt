@@ -1,1 +1,5 @@
 pub mod Covering
+mod Words
+mod Steps
+mod Answered
+mod Flaws

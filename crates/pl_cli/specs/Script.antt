@@ -1,24 +1,38 @@
--- The bytes that are a script.
-use Rattle.std.specs.Prelude.{◌≡◌, ◌<◌, ◌&&◌, ℕ, List, length, Bool, true, false, Result, Ok, Err, Vec, String, string_bytes, nat_le}
+-- The bytes that are a script, and where others are refused.
+use Rattle.std.specs.Prelude.{◌≡◌, ◌<◌, ◌+◌, ◌++◌, ◌⊎◌, ℕ, List, length, slice_index, Result, Ok, Err, Vec, String, string_bytes}
+use Rattle.std.specs.Str.{IsValidUpTo}
 use Rattle.std.specs.declared.alloc.Global.{Global}
-use Rattle.pl_model.specs.Command.{is_plain}
 use Rattle.pl_cli.specs.declared.reading.ReadFail.{ReadFail}
 use Rattle.pl_cli.specs.declared.reading.ReadFail.TheVariants.{Fault, Refused, Memory}
 
--- at most 16 MiB of bytes 1 to 127
-abbrev pub is_script : List ℕ → Bool
-is_script script = nat_le (length script) 16777216 && is_plain script
+-- Bytes are no text from this offset on: those before it are UTF-8, and no more of them, or a zero byte stands there.
+abbrev pub IsFlaw : List ℕ → ℕ → Type 0
+IsFlaw bytes at = IsValidUpTo bytes at ⊎ ((at < length bytes) × (slice_index bytes at ≡ 0))
+
+-- A script is spoiled at this offset: it has a flaw there, or is longer than 16 MiB, which are its first bytes.
+abbrev pub Spoils : List ℕ → ℕ → Type 0
+Spoils script at = IsFlaw script at ⊎ ((at ≡ 16777216) × (16777216 < length script))
+
+-- A script has no such offset. Others are refused at their first one.
+abbrev pub IsScript : List ℕ → Type 0
+IsScript script = (at : ℕ) → Spoils script at → ⊥
+
+abbrev pub IsFirst : (ℕ → Type 0) → ℕ → Type 0
+IsFirst P at = P at × ((k : ℕ) → k < at → P k → ⊥)
+
+abbrev pub IsRefusedAt : List ℕ → ℕ → Type 0
+IsRefusedAt script at = IsFirst (Spoils script) at
 
 -- the whole of what was left was read, and `Refused` comes exactly where that is no script
 abbrev pub IsScriptRead : List ℕ → Result (String Global) ReadFail → Type 0
-IsScriptRead left (Ok script) = (string_bytes script ≡ left) × (is_script left ≡ true)
-IsScriptRead left (Err Refused) = is_script left ≡ false
+IsScriptRead left (Ok script) = (string_bytes script ≡ left) × IsScript left
+IsScriptRead left (Err (Refused at)) = IsRefusedAt left at
 IsScriptRead left (Err Fault) = Unit {0}
 IsScriptRead left (Err Memory) = Unit {0}
 
--- the whole of what was left was taken, and `Refused` comes exactly where that is too long
+-- the whole of what was left was taken, or so much that the character at the limit is there with all its bytes
 abbrev pub IsTaken : List ℕ → Result (Vec ℕ Global) ReadFail → Type 0
-IsTaken left (Ok bytes) = bytes.items ≡ left
-IsTaken left (Err Refused) = 16777216 < length left
+IsTaken left (Ok bytes) = (bytes.items ≡ left) ⊎ ((16777219 < length bytes.items) × ((rest : List ℕ) × (bytes.items ++ rest ≡ left)))
+IsTaken left (Err (Refused at)) = ⊥
 IsTaken left (Err Fault) = Unit {0}
 IsTaken left (Err Memory) = Unit {0}

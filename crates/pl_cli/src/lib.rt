@@ -7,6 +7,6 @@ mod reading;
 #[cfg(test)]
 mod tests;
 
-pub use line::{Line, read_words};
+pub use line::{Line, WordsFail, read_words};
 pub use pl_files::{FileHost, FileSource, Problem};
-pub use program::{Finish, run};
+pub use program::{Finish, refuse_words, run};

@@ -1,12 +1,14 @@
 //! How the script is read.
 
-ghost use Rattle.std.specs.Prelude.{◌≡◌, ◌≤◌, List, ℕ, length, Some, IfOk, IsErrOf, string_bytes};
+ghost use Rattle.std.specs.Prelude.{◌≡◌, ◌<◌, ◌≤◌, List, ℕ, length, Some, IfOk, IsErrOf, MatchOption, string_bytes};
+ghost use Rattle.std.specs.Str.{IsUtf8, IsValidUpTo};
 ghost use Rattle.pl_disk.specs.Disk.{Rises};
-ghost use Rattle.pl_model.specs.Command.{is_plain};
-ghost use Rattle.pl_cli.specs.Script.{IsScriptRead, IsTaken};
+ghost use Rattle.pl_cli.specs.Script.{IsFirst, IsFlaw, IsScriptRead, IsTaken};
 ghost use Rattle.pl_cli.specs.declared.reading.ReadFail.TheVariants.{Fault, Memory};
 
+use memchr::memchr;
 use pl_disk::Source;
+use pl_lex::read_utf8;
 use std::alloc::{AllocError, Global};
 
 /// Why a script wasn't read.
@@ -14,8 +16,9 @@ use std::alloc::{AllocError, Global};
 pub enum ReadFail {
     /// A call of the source failed.
     Fault,
-    /// It is longer than 16 MiB, or has a byte that isn't 1 to 127.
-    Refused,
+    /// From this offset on it is no script: it isn't UTF-8 there, has a zero byte, or is longer than
+    /// 16 MiB. Offsets are in bytes and count from 0.
+    Refused { at: u64 },
     Memory,
 }
 
@@ -30,9 +33,11 @@ impl From<AllocError> for ReadFail {
 /// The most bytes of a script.
 const MAX_SCRIPT: usize = 16_777_216;
 
-// All that is left, unless it is too long.
+/// The most bytes of a character.
+const MAX_CHARACTER: usize = 4;
+
+// All that is left, or more of it than a script has.
 fn take_all<S: Source>(alloc: Global, source: &mut S) -> Result<Vec<u8>, ReadFail>
-    ensures short { IfOk result (λ bytes. length bytes.items ≤ 16777216) }
     ensures named { (name : List ℕ) → S.named source.old name → S.named source.new name }
     ensures read { (left : List ℕ) → S.left source.old ≡ Some left → IsTaken left result }
     ensures fault { IsErrOf result ReadFail.Fault → Rises (S.faults source.old) (S.faults source.new) }
@@ -41,8 +46,9 @@ fn take_all<S: Source>(alloc: Global, source: &mut S) -> Result<Vec<u8>, ReadFai
     let mut text = Vec::new(alloc);
     let mut buffer = [0; 4096];
     'turns: loop {
-        if text.len() > MAX_SCRIPT {
-            return Err(ReadFail::Refused);
+        // A character that begins before the limit is there with all its bytes.
+        if text.len() >= MAX_SCRIPT + MAX_CHARACTER {
+            return Ok(text);
         }
         let Ok(taken) = source.take(&mut buffer) else {
             return Err(ReadFail::Fault);
@@ -54,10 +60,29 @@ fn take_all<S: Source>(alloc: Global, source: &mut S) -> Result<Vec<u8>, ReadFai
     }
 }
 
-fn is_plain(text: &[u8]) -> bool
-    ensures { result ≡ is_plain text.now }
+// How many bytes from the front are UTF-8.
+fn text_end(bytes: &[u8]) -> usize
+    ensures within { result ≤ length bytes.now }
+    ensures ends { result < length bytes.now → IsValidUpTo bytes.now result }
+    ensures text { result ≡ length bytes.now → IsUtf8 bytes.now }
+    ensures least { (k : ℕ) → IsValidUpTo bytes.now k → result ≤ k }
 {
-    text.iter().all(|b| 1 <= *b && *b <= 127)
+    match read_utf8(bytes) {
+        Ok(_) => bytes.len(),
+        Err(error) => error.at,
+    }
+}
+
+// The first offset from which on the bytes are no text.
+fn first_flaw(bytes: &[u8]) -> Option<usize>
+    ensures { MatchOption result (IsUtf8 bytes.now × ((k : ℕ) → IsFlaw bytes.now k → ⊥)) (IsFirst (IsFlaw bytes.now)) }
+{
+    let end = text_end(bytes);
+    match memchr(0, &bytes[..end]) {
+        Some(at) => Some(at),
+        None if end < bytes.len() => Some(end),
+        None => None,
+    }
 }
 
 /// The script that is left in the source of this name, if it is one.
@@ -76,11 +101,16 @@ pub fn read_script<S: Source>(
         return Err(ReadFail::Fault);
     };
     let bytes = take_all(alloc, source)?;
-    if !is_plain(&bytes) {
-        return Err(ReadFail::Refused);
+    match first_flaw(&bytes) {
+        Some(at) if at < MAX_SCRIPT => Err(ReadFail::Refused { at: at as u64 }),
+        None if bytes.len() <= MAX_SCRIPT => {
+            let Ok(script) = String::from_utf8(bytes) else {
+                unreachable!()
+            };
+            Ok(script)
+        }
+        _ => Err(ReadFail::Refused {
+            at: MAX_SCRIPT as u64,
+        }),
     }
-    let Ok(script) = String::from_utf8(bytes) else {
-        unreachable!()
-    };
-    Ok(script)
 }

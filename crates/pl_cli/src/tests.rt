@@ -1,3 +1,6 @@
+mod refusals;
+mod words;
+
 use crate::run;
 use pl_disk::{Area, Host, MemoryHost, MemorySource, Pick};
 use std::alloc::Global;
@@ -72,7 +75,6 @@ fn scripts_print_their_replies(rt: HostRuntime) -> Result<(), Fail> {
             b"ERROR:  0A000: feature_not_supported\n",
             18,
         ),
-        (b"", b"SELECT 1; \xff", 8, b"", 18),
         (&STORE[..83], SCRIPT, 7, b"", 83),
         (&STORE[..57], SCRIPT, 7, b"", 57),
         (&STORE[..10], SCRIPT, 7, b"", 10),

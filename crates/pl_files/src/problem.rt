@@ -73,7 +73,7 @@ impl Problem {
     }
 
     /// The problem as it is printed, in one line without its end. The name is that of the store or of
-    /// the script, as the user gave it.
+    /// the script, as the user gave it; an empty one is printed as `''`.
     pub fn named(self, name: &str) -> Named<'_> {
         Named {
             name,
@@ -86,6 +86,9 @@ impl Display for Named<'_> {
     fn fmt<W: fmt::Write>(&self, f: &mut Formatter<W>) -> fmt::Result {
         let Problem { subject, reason } = self.problem;
         match subject {
+            Subject::File(Area::A) | Subject::Script if self.name.is_empty() => {
+                write!(f, "'': {reason}")
+            }
             Subject::File(Area::A) | Subject::Script => write!(f, "{}: {reason}", self.name),
             Subject::File(Area::B) => write!(f, "{}.alt: {reason}", self.name),
             Subject::Output => write!(f, "standard output: {reason}"),

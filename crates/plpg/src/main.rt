@@ -1,13 +1,11 @@
-//! `plpg STORE SCRIPT` runs an SQL script over a store of two files and prints its replies. Where
-//! it ends early, a line on standard error says why.
+//! `plpg STORE SCRIPT` runs an SQL script over a store of two files and prints its replies. Where a
+//! file, the output or the memory fails it, a line on standard error says what failed and why.
 #![tactic(auto)]
 
-use pl_cli::{FileHost, FileSource, Problem, read_words, run};
+use pl_cli::{FileHost, FileSource, Line, Problem, read_words, refuse_words, run};
 use std::env;
 use std::io::{self, ErrorKind};
 use std::process::ExitCode;
-
-const USAGE: &str = "usage: plpg STORE SCRIPT";
 
 const NO_MEMORY: &str = "plpg: out of memory";
 
@@ -18,25 +16,19 @@ fn explain_problem(rt: &HostRuntime, problem: Option<Problem>, name: &str) -> io
     }
 }
 
+// Says what failed. Of words and a script that are refused the output has a line already.
 fn explain(
     rt: &HostRuntime,
     status: u8,
-    words: &[String],
+    line: Line<'_>,
     host: &FileHost,
     source: &FileSource,
 ) -> io::Result<()> {
-    let Some(line) = read_words(words) else {
-        return eprintln!(rt; "{USAGE}");
-    };
     match status {
         4 => explain_problem(rt, host.disk_problem(), line.store),
         5 => explain_problem(rt, source.problem(), line.script),
         6 => explain_problem(rt, host.say_problem(), line.store),
         7 => eprintln!(rt; "plpg: {}: the store is damaged", line.store),
-        8 => eprintln!(rt;
-            "plpg: {}: the script is longer than 16777216 bytes or has a byte that isn't 1 to 127",
-            line.script
-        ),
         9 => eprintln!(rt; "{NO_MEMORY}"),
         _ => Ok(()),
     }
@@ -47,7 +39,26 @@ fn run_words(rt: HostRuntime, words: &[String]) -> u8 {
     let mut source = FileSource::new(rt);
     let finish = run(rt.alloc(), words, &mut host, &mut source);
     // Where standard error fails too, the status alone says it.
-    let _ = explain(&rt, finish.status, words, &host, &source);
+    let _ = match read_words(rt.alloc(), words) {
+        Ok(line) => explain(&rt, finish.status, line, &host, &source),
+        Err(_) => explain_refused(&rt, finish.status, &host),
+    };
+    finish.status
+}
+
+// The same where the words are no line.
+fn explain_refused(rt: &HostRuntime, status: u8, host: &FileHost) -> io::Result<()> {
+    match status {
+        6 => explain_problem(rt, host.say_problem(), ""),
+        9 => eprintln!(rt; "{NO_MEMORY}"),
+        _ => Ok(()),
+    }
+}
+
+fn refuse(rt: HostRuntime) -> u8 {
+    let mut host = FileHost::new(rt);
+    let finish = refuse_words(&mut host);
+    let _ = explain_refused(&rt, finish.status, &host);
     finish.status
 }
 
@@ -58,14 +69,12 @@ fn all_words(rt: &HostRuntime) -> io::Result<Vec<String>> {
 fn main(rt: HostRuntime) -> ExitCode {
     let status = match all_words(&rt) {
         Ok(words) => run_words(rt, &words),
-        Err(error) => {
-            let (status, why) = match error.kind() {
-                ErrorKind::OutOfMemory => (9, NO_MEMORY),
-                _ => (2, USAGE),
-            };
-            let _ = eprintln!(rt; "{why}");
-            status
+        Err(error) if error.kind() == ErrorKind::OutOfMemory => {
+            let _ = eprintln!(rt; "{NO_MEMORY}");
+            9
         }
+        // A word isn't UTF-8.
+        Err(_) => refuse(rt),
     };
     ExitCode::from(status)
 }

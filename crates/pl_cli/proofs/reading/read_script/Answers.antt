@@ -1,11 +1,19 @@
-use Rattle.std.proofs.Common.{List, ℕ, sym, ◌∙◌, ap}
-use Rattle.std.proofs.lemmas.Str.{IsUtf8-from_ascii}
-use Rattle.pl_model.specs.Command.{is_plain}
-use Rattle.pl_session.proofs.Planned.{ascii_of}
+use Rattle.std.proofs.Common.{◌≡◌, ◌∙◌, ap, sym, subst, ℕ, List, ◌<◌, ◌⊎◌, length, arith}
+use Rattle.pl_cli.specs.Script.{IsFirst, IsFlaw}
+use Rattle.pl_cli.proofs.Flaws.{past_limit, refused_early, refused_long}
 use Rattle.pl_cli.proofs.reading.read_script.Goals as goal
+use Rattle.pl_cli.proofs.reading.read_script.Goals.{in_default-first_flaw-via-in-Some+else-at-lt-MAX_SCRIPT, in_default-first_flaw-via-in-None+else-len-le-MAX_SCRIPT}
 
-pub unreachable-requires : goal.unreachable-requires
-unreachable-requires g c =
-    let plain = ap (λ (text : List ℕ). is_plain text) (sym c.deref.ensures.value) ∙ sym c.if-not-is_plain.ensures in
-    let fine = c.in_default-from_utf8.ensures.succeeds (IsUtf8-from_ascii _ (ascii_of _ plain)) in
-    cc
+pub returns-in-Some-clause-read : goal.returns-in-Some-clause-read
+returns-in-Some-clause-read g c left is =
+    let taken = c.in_ok-bytes.ensures.read left (c.in-Ok.ensures.left ∙ is) in
+    refused_early left c.in_ok-bytes.bytes.items c.in-Some.at taken (subst (λ (l : List ℕ). IsFirst (IsFlaw l) c.in-Some.at) c.deref.ensures.value c.in-Some.ensures) c.if-at-lt-MAX_SCRIPT.true
+
+pub returns-in_default-first_flaw-clause-read : goal.returns-in_default-first_flaw-clause-read
+returns-in_default-first_flaw-clause-read g c left is =
+    let taken = c.in_ok-bytes.ensures.read left (c.in-Ok.ensures.left ∙ is) in
+    let bytes = c.in_ok-bytes.bytes.items in
+    elim c.in_default-first_flaw.branch [
+      | in_default-first_flaw-via-in-Some+else-at-lt-MAX_SCRIPT w ↦ past_limit left bytes w.in-Some.at taken (subst (λ (l : List ℕ). IsFirst (IsFlaw l) w.in-Some.at) c.deref.ensures.value w.in-Some.ensures) w.if-at-lt-MAX_SCRIPT.false
+      | in_default-first_flaw-via-in-None+else-len-le-MAX_SCRIPT w ↦ refused_long left bytes taken (λ k before flaw. w.in-None.ensures.1 k (subst (λ (l : List ℕ). IsFlaw l k) (sym c.deref.ensures.value) flaw)) (omega (arith, w.if-len-le-MAX_SCRIPT.false, w.len.ensures, c.deref.ensures.len, ap length c.deref.ensures.value))
+    ]
