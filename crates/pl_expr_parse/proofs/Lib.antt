@@ -4,3 +4,4 @@ pub mod Signs
 pub mod Nots
 pub mod Told
 pub mod Theorem
+pub mod Finished

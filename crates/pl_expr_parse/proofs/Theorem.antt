@@ -15,19 +15,19 @@ use Rattle.pl_expr_parse.proofs.Told.{fit}
 
 pub read_spells : (n : ℕ) (p : Part) (ts rest : Tokens) (a : Tree p) → Gives (reads_inside n p ts) a rest → length rest ≡ 0 → SpelledBy rule p a ts
 unfolding reads_inside
-read_spells = whole.read_spells rule edges fit (reads_is rule edges all_ranked) (sound_inside rule edges)
+read_spells = whole.read_spells rule edges fit (reads_is rule edges all_ranked) (sound_inside rule edges fit)
 
 pub one_tree : (n : ℕ) (p : Part) → behind p ≡ false → (ts rest : Tokens) (a other : Tree p) → length ts < n → Gives (reads_inside n p ts) a rest → SpelledBy rule p other ts → other ≡ a
 unfolding reads_inside
-one_tree = whole.one_tree rule edges fit (reads_is rule edges all_ranked) (sound_inside rule edges)
+one_tree = whole.one_tree rule edges fit (reads_is rule edges all_ranked) (sound_inside rule edges fit)
 
 pub unread : (n : ℕ) (p : Part) → behind p ≡ false → (ts : Tokens) → length ts < n → reads_inside n p ts ≡ None → (a : Tree p) → SpelledBy rule p a ts → ⊥
 unfolding reads_inside
-unread = whole.unread rule edges fit (reads_is rule edges all_ranked) (sound_inside rule edges)
+unread = whole.unread rule edges fit (reads_is rule edges all_ranked) (sound_inside rule edges fit)
 
 pub not_whole : (n : ℕ) (p : Part) → behind p ≡ false → (ts rest : Tokens) (a : Tree p) → length ts < n → Gives (reads_inside n p ts) a rest → (length rest ≡ 0 → ⊥) → (other : Tree p) → SpelledBy rule p other ts → ⊥
 unfolding reads_inside
-not_whole = whole.not_whole rule edges fit (reads_is rule edges all_ranked) (sound_inside rule edges)
+not_whole = whole.not_whole rule edges fit (reads_is rule edges all_ranked) (sound_inside rule edges fit)
 
 -- the depth at which a whole list is read
 pub deep_enough : (ts : List Token) → length (kinds ts) < length ts + 1

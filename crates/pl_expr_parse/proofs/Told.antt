@@ -18,6 +18,7 @@ use Rattle.pl_grammar.specs.Rule.{Rule, part, inside, one, nothing, maybe, ◌be
 use Rattle.pl_grammar.specs.Fit.{Told, Ends, Fit}
 use Rattle.pl_grammar.specs.Words.{ARROW, DOT, STAR, FATAL_ERRORS}
 use Rattle.pl_grammar.proofs.Tools.{Gives, same_pair}
+use Rattle.pl_grammar.proofs.Plain.{plain, plain_told, split}
 use Rattle.pl_expr_parse.specs.Grammar.{Part, Expression, Conjunction, Negation, Test, Question, Comparison, Ranged, Range, Members, Concatenation, Sum, Product, Signed, Conversion, Primary, Bracketed, TypeName, Expressions, BracketedList, Named, Suffix, Arguments, ArgumentList, Argument, NamedArgument, Worded, Exists, NullIf, BeforeComma, BeforeClose, Cast, Row, Case, Arms, Whens, Arm, Otherwise, Query, Selected, Items, Item, Label, Alias, Sources, Condition, Groups, Having, Order, Key, Direction, Nulls, Paging, Limit, Offset, From, Join, JoinedOn, Factor, Call, FactorInBrackets, Tree, rule, R, is_named, is_all_of}
 use Rattle.pl_expr_parse.specs.Edges.{edges}
 use Rattle.pl_expr_parse.proofs.Fits.{all_fit, all_guarded, all_begun, all_firsts, all_stops, all_ranked}
@@ -43,10 +44,6 @@ unfolding same_sign
 is_sign o (kind.Sign x) h = ap kind.Sign (same_true sign_type (search rules) x o h)
 is_sign o t h = absurd (cc)
 
-split : (a b : Bool) → (a && b) ≡ true → (a ≡ true) × (b ≡ true)
-split true b h = (refl, h)
-split false b h = absurd (cc)
-
 both_hold : {a b : Bool} → a ≡ true → b ≡ true → (a && b) ≡ true
 both_hold {a} {b} h k = ap (λ (x : Bool). x && b) h ∙ k
 
@@ -54,46 +51,6 @@ name_marked : (t : TokenKind) (n : List ℕ) → carried a_name t ≡ Some n →
 name_marked (kind.Word m) n h = refl
 name_marked (kind.Quoted m) n h = refl
 name_marked t n h = absurd (cc)
-
--- ---- rules that don't look ahead
-
-module _ {Part : Type 0} {Tree : Part → Type 0} where
-  abbrev plain : {A : Type 0} → Rule Tree A → Bool
-  plain (part p) = true
-  plain (inside p) = true
-  plain (one s) = true
-  plain (nothing a) = true
-  plain (maybe m) = true
-  plain (◌before◌ m r) = plain r
-  plain (◌until◌ r m) = plain r
-  plain (◌then◌ r s) = plain r && plain s
-  plain (make f r) = plain r
-  plain (check f r) = plain r
-  plain (fork m r s) = plain r && plain s
-  plain (◌or◌ r s) = plain r && plain s
-  plain (ahead test marks r s) = false
-  plain (links table r f) = plain r
-  plain (link table r f) = plain r
-  plain (many r) = plain r
-
-  module _ (e : Edges Part) (R : (p : Part) → Rel (Tree p)) (inner here : (p : Part) → Parser (Tree p)) where
-    plain_told : {A : Type 0} (r : Rule Tree A) → plain r ≡ true → Told e R inner here r
-    plain_told (part p) h = tt
-    plain_told (inside p) h = tt
-    plain_told (one s) h = tt
-    plain_told (nothing a) h = tt
-    plain_told (maybe m) h = tt
-    plain_told (◌before◌ m r) h = plain_told r h
-    plain_told (◌until◌ r m) h = plain_told r h
-    plain_told (◌then◌ r s) h = let two = split (plain r) (plain s) h in (plain_told r two.0, plain_told s two.1)
-    plain_told (make f r) h = plain_told r h
-    plain_told (check f r) h = plain_told r h
-    plain_told (fork m r s) h = let two = split (plain r) (plain s) h in (plain_told r two.0, plain_told s two.1)
-    plain_told (◌or◌ r s) h = let two = split (plain r) (plain s) h in (plain_told r two.0, plain_told s two.1)
-    plain_told (ahead test marks r s) h = absurd (cc)
-    plain_told (links table r f) h = plain_told r h
-    plain_told (link table r f) h = plain_told r h
-    plain_told (many r) h = plain_told r h
 
 -- ---- fatal_errors =>
 

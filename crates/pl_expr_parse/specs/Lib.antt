@@ -3,3 +3,4 @@ pub mod Grammar
 pub mod Edges
 pub mod Nests
 pub mod Spells
+pub mod Finished

@@ -8,6 +8,11 @@ mod parse;
 mod parts;
 mod primary;
 mod queries;
+mod readers;
 mod trees;
 
 pub use parse::{parse_expr, parse_query};
+pub use readers::{
+    read_alias, read_arguments, read_expression, read_items, read_operand, read_query, read_type,
+};
+pub use trees::may_have;

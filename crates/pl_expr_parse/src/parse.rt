@@ -16,7 +16,7 @@ use std::alloc::Global;
 
 /// An expression in which parts stand inside one another no deeper than `depth`.
 #[cycle(nest)]
-fn expression(alloc: Global, tokens: &mut Tokens<'_>, depth: usize) -> Result<Expr, Fail>
+pub(crate) fn expression(alloc: Global, tokens: &mut Tokens<'_>, depth: usize) -> Result<Expr, Fail>
     ensures { Reads (reads_inside depth spec.Expression tokens.old) result tokens.new }
 {
     if depth == 0 {
@@ -34,7 +34,7 @@ fn expression(alloc: Global, tokens: &mut Tokens<'_>, depth: usize) -> Result<Ex
 
 /// A query, likewise.
 #[cycle(nest)]
-fn query(alloc: Global, tokens: &mut Tokens<'_>, depth: usize) -> Result<Query, Fail>
+pub(crate) fn query(alloc: Global, tokens: &mut Tokens<'_>, depth: usize) -> Result<Query, Fail>
     ensures { Reads (reads_inside depth spec.Query tokens.old) result tokens.new }
 {
     if depth == 0 {
@@ -52,7 +52,7 @@ fn query(alloc: Global, tokens: &mut Tokens<'_>, depth: usize) -> Result<Query, 
 
 /// What FROM has in brackets, likewise.
 #[cycle(nest)]
-fn source(alloc: Global, tokens: &mut Tokens<'_>, depth: usize) -> Result<From, Fail>
+pub(crate) fn source(alloc: Global, tokens: &mut Tokens<'_>, depth: usize) -> Result<From, Fail>
     ensures { Reads (reads_inside depth spec.From tokens.old) result tokens.new }
 {
     if depth == 0 {

@@ -11,9 +11,9 @@ ghost use Rattle.pl_expr_parse.specs.Nests.{Nests};
 
 use crate::grammar::Grammar;
 use crate::operators::is_all_of;
-use crate::trees::{joined, joined_of, source_of};
+use crate::trees::{joined_of, source_of};
 use pl_base::{Boxed, List, Name};
-use pl_grammar::{Fail, Tokens};
+use pl_grammar::{Fail, Tokens, joined};
 use pl_lex::{Keyword, Sign as Mark};
 use pl_tree::{Argument, Expr, From, Item, Join, JoinKind, Key, Nulls, Query};
 use std::alloc::Global;

@@ -6,18 +6,9 @@ ghost use Rattle.pl_expr_parse.specs.Trees as spec;
 
 use crate::parts::{Question, Range, Suffix};
 use pl_base::{Boxed, List, Name, Ty};
-use pl_grammar::Fail;
+use pl_grammar::{Fail, joined};
 use pl_tree::{Argument, Expr, Factor, From, Join, Literal, Sign, Term};
 use std::alloc::{AllocError, Global};
-
-pub(crate) fn joined<T: Drop>(alloc: Global, first: T, more: List<T>) -> Result<List<T>, AllocError>
-    ensures { IfOk result (λ all. all ≡ first ∷ more) }
-{
-    let mut all = List::new(alloc);
-    all.push(first)?;
-    all.append(more)?;
-    Ok(all)
-}
 
 pub(crate) fn disjunction_of(
     alloc: Global,
@@ -270,6 +261,14 @@ fn is(name: Name, word: &str) -> bool
     ensures { result ≡ spec.same_text name word.now }
 {
     name.as_bytes() == word.as_bytes()
+}
+
+/// Whether a call of this name may have these arguments: one that is named stands last, and only where the
+/// name is that of the checker.
+pub fn may_have(name: Name, arguments: &[Argument]) -> bool
+    ensures { result ≡ spec.well_called (spec.checks name) arguments.now }
+{
+    well_called(is(name, "plpgsql_check_function"), arguments)
 }
 
 /// The type of this name: a row type where it is no other.

@@ -3,12 +3,12 @@ use Rattle.std.proofs.Common.{◌≡◌, ℕ, zero, suc, ◌<◌, ◌≤◌, Boo
 use Rattle.pl_lex.specs.declared.token.TokenKind.{TokenKind}
 use Rattle.pl_grammar.specs.Marks.{Tokens, Mark, marked, Sort, Carried}
 use Rattle.pl_grammar.specs.Parser.{Parser, and_then, pure, with_rest, sees, after, eat, expect, take, begins, among, joins, links_turn, links_from, link_at, many_turn, many_from}
-use Rattle.pl_grammar.specs.Relations.{Rel, One, carries, Then, both, Before, behind_mark, Until, before_mark, Made, made, Checked, checked, Empty, empty, Maybe, there, absent, Fork, with_mark, without, Either, first as by_first, second as by_second, Links, no_link, joined, Link, unlinked, linked, Many, no_more, one_more}
-use Rattle.pl_grammar.specs.Rule.{Rule, part, inside, one, nothing, maybe, ◌before◌, ◌until◌, ◌then◌, make, check, fork, ◌or◌, ahead, links, link, many, Spelled, Edges, words, nullable, starts, read}
-use Rattle.pl_grammar.specs.Fit.{apart_all, clear, stops, fits, guarded, Ends, Told}
+use Rattle.pl_grammar.specs.Relations.{Rel, One, carries, Then, both, Before, behind_mark, Until, before_mark, Made, made, Checked, checked, Empty, empty, Maybe, there, absent, Fork, with_mark, without, Either, first as by_first, second as by_second, Prefer, preferred, otherwise, Links, no_link, joined, Link, unlinked, linked, Many, no_more, one_more}
+use Rattle.pl_grammar.specs.Rule.{Rule, part, inside, given, one, nothing, maybe, ◌before◌, ◌until◌, ◌then◌, make, check, fork, ◌or◌, ahead, prefer, links, link, many, Spelled, Edges, words, nullable, starts, read}
+use Rattle.pl_grammar.specs.Fit.{apart_all, clear, stops, fits, guarded, Ends, Begun, Told}
 use Rattle.pl_grammar.proofs.Tools.{Gives, bind_gives, expect_gives, after_mark, after_false}
 use Rattle.pl_grammar.proofs.Sets.{and_true, not_true, either_false, false_unless, apart_all_off, unmarked, clear_off, clear_off_left, ends_both, table_among, table_none}
-use Rattle.pl_grammar.proofs.Begins.{Begun, begun, many_begun}
+use Rattle.pl_grammar.proofs.Begins.{begun, many_begun}
 
 -- what is spelled with fewer than n tokens is read, where it ends
 abbrev pub Complete : {A : Type 0} → ℕ → Parser A → Rel A → List Mark → Type 0
@@ -101,6 +101,13 @@ module _ {A : Type 0} (p q : Parser A) (R S : Rel A) (m : ℕ) (ss us : List Mar
         let parts = ends_both us marks rest (ends_both ss (us ++ marks) rest end).1 in
         let this = d a front rest h low parts.0 in
         take_second (test (front ++ rest)) p q (front ++ rest) a rest (false_unless (test (front ++ rest)) (λ k. excluded (front ++ rest) rest a k this parts.1)) this
+
+    prefer_complete : (test : Tokens → Bool) (marks : List Mark) → ((a : A) (front rest : Tokens) → R a front → test (front ++ rest) ≡ true)
+        → ((a : A) (front rest : Tokens) → S a front → test front ≡ false → test (front ++ rest) ≡ true → Ends marks rest → ⊥) → Complete m (λ ts. (if test ts then p else q) ts) (Prefer test R S) (ss ++ (us ++ marks))
+    prefer_complete test marks passes excluded a front rest (preferred h) low end = take_first (test (front ++ rest)) p q (front ++ rest) a rest (passes a front rest h) (c a front rest h low (ends_both ss (us ++ marks) rest end).0)
+    prefer_complete test marks passes excluded a front rest (otherwise fails h) low end =
+        let parts = ends_both us marks rest (ends_both ss (us ++ marks) rest end).1 in
+        take_second (test (front ++ rest)) p q (front ++ rest) a rest (false_unless (test (front ++ rest)) (λ k. excluded a front rest h fails k parts.1)) (d a front rest h low parts.0)
 
 -- ---- one and then the other
 
@@ -225,6 +232,7 @@ module _ {Part : Type 0} {Tree : Part → Type 0} (e : Edges Part) (R : (p : Par
   complete m lo hi c (inside p) f t g = λ a front rest h low end.
       let no : n < m → ⊥ = λ l. let k = g l in cc in
       inner_complete p (not_true (e.behind p) f) a front rest h (omega arith) end
+  complete m lo hi c (given x) f t g = λ a front rest h low end. t.complete a front rest h end
   complete m lo hi c (one s) f t g = λ a front rest h low end. take_complete s a front rest h
   complete m lo hi c (nothing x) f t g = λ a front rest h low end. nothing_complete x a front rest h
   complete m lo hi c (maybe k) f t g = λ a front rest h low end. eat_complete k a front rest h end
@@ -244,27 +252,32 @@ module _ {Part : Type 0} {Tree : Part → Type 0} (e : Edges Part) (R : (p : Par
       let same = λ (k : nullable e r ≡ true). complete m lo hi c s parts.1 t.1 (λ l. or_not (guarded e s) (nullable e r) (guards l).1 k) in
       let below = complete n (omega arith) (omega arith) (lower m lo c) s parts.1 t.1 (λ l. absurd (omega arith)) in
       then_complete (read e inner here r) (read e inner here s) (Spelled R r) (Spelled R s) m (stops e r) (stops e s ++ last) this
-      (λ a xs h b ys rest k low end. behind_complete (read e inner here s) (Spelled R s) (stops e s) n m hi below (nullable e r) same (starts e r) xs (begun e R begin r a xs h) b ys rest k low (ends_both (stops e s) last rest end).0)
-      (λ b ys rest k end. ends_behind (starts e s) (stops e r) (nullable e s) ys rest (λ t i. clear_off (starts e s) (stops e r) t two.1 i) (begun e R begin s b ys k) (ends_both (stops e s) last rest end).1)
+      (λ a xs h b ys rest k low end. behind_complete (read e inner here s) (Spelled R s) (stops e s) n m hi below (nullable e r) same (starts e r) xs (begun e R inner here begin r t.0 a xs h) b ys rest k low (ends_both (stops e s) last rest end).0)
+      (λ b ys rest k end. ends_behind (starts e s) (stops e r) (nullable e s) ys rest (λ t i. clear_off (starts e s) (stops e r) t two.1 i) (begun e R inner here begin s t.1 b ys k) (ends_both (stops e s) last rest end).1)
   complete m lo hi c (make x r) f t g = make_complete (read e inner here r) (Spelled R r) m (stops e r) (complete m lo hi c r f t g) x
   complete m lo hi c (check x r) f t g = check_complete (read e inner here r) (Spelled R r) m (stops e r) (complete m lo hi c r f t g) x
   complete m lo hi c (fork k r s) f t g =
       let two = and_true (fits e r && fits e s) (apart_all k (starts e s)) f in
       let parts = and_true (fits e r) (fits e s) two.0 in
       let below = complete n (omega arith) (omega arith) (lower m lo c) r parts.0 t.0 (λ l. absurd (omega arith)) in
-      fork_complete (read e inner here r) (read e inner here s) (Spelled R r) (Spelled R s) m (stops e r) (stops e s) (complete m lo hi c s parts.1 t.1 g) n hi below k (starts e s) (nullable e s) (begun e R begin s) two.1
+      fork_complete (read e inner here r) (read e inner here s) (Spelled R r) (Spelled R s) m (stops e r) (stops e s) (complete m lo hi c s parts.1 t.1 g) n hi below k (starts e s) (nullable e s) (begun e R inner here begin s t.1) two.1
   complete m lo hi c (◌or◌ r s) f t g =
       let two = and_true (fits e r && fits e s && not (nullable e r)) (clear (starts e r) (starts e s)) f in
       let more = and_true (fits e r && fits e s) (not (nullable e r)) two.0 in
       let parts = and_true (fits e r) (fits e s) more.0 in
       let guards = λ (l : n < m). and_true (guarded e r) (guarded e s) (g l) in
       or_complete (read e inner here r) (read e inner here s) (Spelled R r) (Spelled R s) m (stops e r) (stops e s) (complete m lo hi c s parts.1 t.1 (λ l. (guards l).1)) (complete m lo hi c r parts.0 t.0 (λ l. (guards l).0))
-      (starts e r) (starts e s) (nullable e r) (nullable e s) (begun e R begin r) (begun e R begin s) (not_true (nullable e r) more.1) two.1
+      (starts e r) (starts e s) (nullable e r) (nullable e s) (begun e R inner here begin r t.0) (begun e R inner here begin s t.1) (not_true (nullable e r) more.1) two.1
   complete m lo hi c (ahead test marks r s) f t g =
       let parts = and_true (fits e r) (fits e s) f in
       let guards = λ (l : n < m). and_true (guarded e r) (guarded e s) (g l) in
       ahead_complete (read e inner here r) (read e inner here s) (Spelled R r) (Spelled R s) m (stops e r) (stops e s) (complete m lo hi c s parts.1 t.1 (λ l. (guards l).1)) (complete m lo hi c r parts.0 t.0 (λ l. (guards l).0))
       test marks t.2 t.3
+  complete m lo hi c (prefer test marks r s) f t g =
+      let parts = and_true (fits e r) (fits e s) f in
+      let guards = λ (l : n < m). and_true (guarded e r) (guarded e s) (g l) in
+      prefer_complete (read e inner here r) (read e inner here s) (Spelled R r) (Spelled R s) m (stops e r) (stops e s) (complete m lo hi c s parts.1 t.1 (λ l. (guards l).1)) (complete m lo hi c r parts.0 t.0 (λ l. (guards l).0))
+      test marks t.3 t.4
   complete m lo hi c (links table r x) f t g =
       let two = and_true (fits e r) (clear (words table) (stops e r)) f in
       let below = complete n (omega arith) (omega arith) (lower m lo c) r two.0 t (λ l. absurd (omega arith)) in
@@ -284,7 +297,7 @@ module _ {Part : Type 0} {Tree : Part → Type 0} (e : Edges Part) (R : (p : Par
       λ all front rest h low end.
       let sizes = length-append front rest in
       let parts = ends_both (starts e r) (stops e r) rest end in
-      many_complete (starts e r) (read e inner here r) (Spelled R r) m (stops e r) this (nullable e r) (not_true (nullable e r) more.1) (begun e R begin r) two.1 (length (front ++ rest)) [] all front rest h low (omega arith) parts.0 parts.1
+      many_complete (starts e r) (read e inner here r) (Spelled R r) m (stops e r) this (nullable e r) (not_true (nullable e r) more.1) (begun e R inner here begin r t) two.1 (length (front ++ rest)) [] all front rest h low (omega arith) parts.0 parts.1
 
   -- behind a token, where both kinds of parts are read with fewer than n tokens
   pub later : {A : Type 0} (r : Rule Tree A) → fits e r ≡ true → Told e R inner here r → Complete n (read e inner here r) (Spelled R r) (stops e r)

@@ -1,8 +1,8 @@
 -- Higher derivations spell what lower ones do, and what a rule spells has a derivation of some height.
 use Rattle.std.proofs.Common.{ℕ, zero, suc, ◌+◌, ◌≤◌, List, arith}
 use Rattle.pl_grammar.specs.Marks.{Tokens, Mark}
-use Rattle.pl_grammar.specs.Relations.{Rel, both, behind_mark, before_mark, made, checked, with_mark, without, first, second, Links, no_link, joined, unlinked, linked, Many, no_more, one_more}
-use Rattle.pl_grammar.specs.Rule.{Rule, part, inside, one, nothing, maybe, ◌before◌, ◌until◌, ◌then◌, make, check, fork, ◌or◌, ahead, links, link, many, Spelled, Within, SpelledBy}
+use Rattle.pl_grammar.specs.Relations.{Rel, both, behind_mark, before_mark, made, checked, with_mark, without, first, second, preferred, otherwise, Links, no_link, joined, unlinked, linked, Many, no_more, one_more}
+use Rattle.pl_grammar.specs.Rule.{Rule, part, inside, given, one, nothing, maybe, ◌before◌, ◌until◌, ◌then◌, make, check, fork, ◌or◌, ahead, prefer, links, link, many, Spelled, Within, SpelledBy}
 
 -- ---- in other relations
 
@@ -17,6 +17,7 @@ many_mapped R S m bs front (one_more {a = a} {xs = xs} {bs = cs} {ys = ys} x mor
 pub mapped : {Part : Type 0} {Tree : Part → Type 0} (R S : (p : Part) → Rel (Tree p)) → ((p : Part) (a : Tree p) (xs : Tokens) → R p a xs → S p a xs) → {A : Type 0} (r : Rule Tree A) (a : A) (xs : Tokens) → Spelled R r a xs → Spelled S r a xs
 mapped R S m (part p) a xs d = m p a xs d
 mapped R S m (inside p) a xs d = m p a xs d
+mapped R S m (given g) a xs d = d
 mapped R S m (one s) a xs d = d
 mapped R S m (nothing b) a xs d = d
 mapped R S m (maybe k) a xs d = d
@@ -31,6 +32,8 @@ mapped R S m (◌or◌ r s) a xs (first d) = first (mapped R S m r a xs d)
 mapped R S m (◌or◌ r s) a xs (second d) = second (mapped R S m s a xs d)
 mapped R S m (ahead test marks r s) a xs (first d) = first (mapped R S m r a xs d)
 mapped R S m (ahead test marks r s) a xs (second d) = second (mapped R S m s a xs d)
+mapped R S m (prefer test marks r s) a xs (preferred d) = preferred (mapped R S m r a xs d)
+mapped R S m (prefer test marks r s) a xs (otherwise fails d) = otherwise fails (mapped R S m s a xs d)
 mapped R S m (links table r f) bs xs d = links_mapped table f (Spelled R r) (Spelled S r) (mapped R S m r) bs xs d
 mapped R S m (link table r f) b front unlinked = unlinked
 mapped R S m (link table r f) b front (linked {a = a} {xs = xs} e d) = linked e (mapped R S m r a xs d)
@@ -69,6 +72,7 @@ module _ {Part : Type 0} {Tree : Part → Type 0} (rule : (p : Part) → Rule Tr
   pub closed : {A : Type 0} (r : Rule Tree A) (a : A) (xs : Tokens) → Spelled (SpelledBy rule) r a xs → (h : ℕ) × Spelled (Within rule h) r a xs
   closed (part p) a xs d = d
   closed (inside p) a xs d = d
+  closed (given g) a xs d = (0, d)
   closed (one s) a xs d = (0, d)
   closed (nothing b) a xs d = (0, d)
   closed (maybe k) a xs d = (0, d)
@@ -86,6 +90,8 @@ module _ {Part : Type 0} {Tree : Part → Type 0} (rule : (p : Part) → Rule Tr
   closed (◌or◌ r s) a xs (second d) = let x = closed s a xs d in (x.0, second x.1)
   closed (ahead test marks r s) a xs (first d) = let x = closed r a xs d in (x.0, first x.1)
   closed (ahead test marks r s) a xs (second d) = let x = closed s a xs d in (x.0, second x.1)
+  closed (prefer test marks r s) a xs (preferred d) = let x = closed r a xs d in (x.0, preferred x.1)
+  closed (prefer test marks r s) a xs (otherwise fails d) = let x = closed s a xs d in (x.0, otherwise fails x.1)
   closed (links table r f) bs xs d = links_closed table f r (closed r) bs xs d
   closed (link table r f) b front unlinked = (0, unlinked)
   closed (link table r f) b front (linked {a = a} {xs = xs} e d) = let x = closed r a xs d in (x.0, linked e x.1)

@@ -8,3 +8,4 @@ pub mod Complete
 pub mod Theorem
 pub mod Turns
 pub mod DeepSteps
+pub mod Plain

@@ -2,7 +2,7 @@
 use Rattle.std.proofs.Common.{◌≡◌, ℕ, zero, suc, ◌<◌, Bool, true, false, ◌&&◌, if◌then◌else◌, List, [], length, refl, ap, ap₂, arith, ltb-true, Option, Some}
 use Rattle.pl_grammar.specs.Marks.{Tokens}
 use Rattle.pl_grammar.specs.Parser.{Parser, and_then, with_rest, sees, after, expect, begins, joins, links_from, link_at, many_from}
-use Rattle.pl_grammar.specs.Rule.{Rule, part, inside, one, nothing, maybe, ◌before◌, ◌until◌, ◌then◌, make, check, fork, ◌or◌, ahead, links, link, many, Edges, starts, read, read_below, read_inside, read_part}
+use Rattle.pl_grammar.specs.Rule.{Rule, part, inside, given, one, nothing, maybe, ◌before◌, ◌until◌, ◌then◌, make, check, fork, ◌or◌, ahead, prefer, links, link, many, Edges, starts, read, read_below, read_inside, read_part}
 use Rattle.pl_grammar.specs.Fit.{ranked}
 
 split_and : (a b : Bool) → (a && b) ≡ true → (a ≡ true) × (b ≡ true)
@@ -13,6 +13,7 @@ module _ {Part : Type 0} {Tree : Part → Type 0} (e : Edges Part) (inner here h
   pub read_same : (k : ℕ) → ((p : Part) → e.rank p < k → here p ≡ here' p) → {A : Type 0} (r : Rule Tree A) → ranked e.rank k r ≡ true → read e inner here r ≡ read e inner here' r
   read_same k same (part p) h = same p (ltb-true (e.rank p) k h)
   read_same k same (inside p) h = refl
+  read_same k same (given g) h = refl
   read_same k same (one s) h = refl
   read_same k same (nothing a) h = refl
   read_same k same (maybe m) h = refl
@@ -30,6 +31,9 @@ module _ {Part : Type 0} {Tree : Part → Type 0} (e : Edges Part) (inner here h
       let two = split_and (ranked e.rank k r) (ranked e.rank k s) h in
       ap₂ {C = Parser A} (λ (p q : Parser A) ts. (if begins (starts e r) ts then p else q) ts) (read_same k same r two.0) (read_same k same s two.1)
   read_same k same (ahead {A = A} test marks r s) h =
+      let two = split_and (ranked e.rank k r) (ranked e.rank k s) h in
+      ap₂ {C = Parser A} (λ (p q : Parser A) ts. (if test ts then p else q) ts) (read_same k same r two.0) (read_same k same s two.1)
+  read_same k same (prefer {A = A} test marks r s) h =
       let two = split_and (ranked e.rank k r) (ranked e.rank k s) h in
       ap₂ {C = Parser A} (λ (p q : Parser A) ts. (if test ts then p else q) ts) (read_same k same r two.0) (read_same k same s two.1)
   read_same k same (links {A = A} {B = B} table r f) h = ap {B = Parser (List B)} (λ (p : Parser A) ts. links_from table p f (length ts) [] ts) (read_same k same r h)

@@ -3,10 +3,12 @@ use Rattle.std.proofs.Common.{◌≡◌, ℕ, zero, suc, Bool, true, false, if�
 use Rattle.pl_lex.specs.declared.token.TokenKind.{TokenKind}
 use Rattle.pl_grammar.specs.Marks.{Tokens, Mark, Sort, carried}
 use Rattle.pl_grammar.specs.Parser.{Parser, and_then, pure, with_rest, sees, after, eat, expect, take, begins, joined_by, joins, links_turn, links_from, link_at, many_turn, many_from}
-use Rattle.pl_grammar.specs.Relations.{Rel, One, carries, Then, both, Before, behind_mark, Until, before_mark, Made, made, Checked, checked, Empty, empty, Maybe, there, absent, Fork, with_mark, without, Either, first, second, Links, no_link, joined, Link, unlinked, linked, Many, no_more, one_more}
-use Rattle.pl_grammar.specs.Rule.{Rule, part, inside, one, nothing, maybe, ◌before◌, ◌until◌, ◌then◌, make, check, fork, ◌or◌, ahead, links, link, many, Edges, starts, read, Spelled, SpelledBy, read_below, read_inside}
+use Rattle.pl_grammar.specs.Relations.{Rel, One, carries, Then, both, Before, behind_mark, Until, before_mark, Made, made, Checked, checked, Empty, empty, Maybe, there, absent, Fork, with_mark, without, Either, first, second, Prefer, preferred, otherwise, Links, no_link, joined, Link, unlinked, linked, Many, no_more, one_more}
+use Rattle.pl_grammar.specs.Rule.{Rule, Given, part, inside, given, one, nothing, maybe, ◌before◌, ◌until◌, ◌then◌, make, check, fork, ◌or◌, ahead, prefer, links, link, many, Edges, starts, read, Spelled, Within, SpelledBy, read_below, read_inside, read_part}
 use Rattle.pl_grammar.proofs.Tools.{Gives, Front, Sound, bind_some, same_pair, rest_some, expected, after_true, after_false}
+use Rattle.pl_grammar.specs.Fit.{Fit, Told, Lawful}
 use Rattle.pl_grammar.proofs.Heights.{spelled_by}
+use Rattle.pl_grammar.proofs.Sets.{false_unless}
 
 -- ---- one token, and none
 
@@ -109,6 +111,17 @@ module _ {A : Type 0} (p q : Parser A) (R S : Rel A) (s : Sound p R) (t : Sound 
   either_sound : (test : Tokens → Bool) → Sound (λ ts. (if test ts then p else q) ts) (Either R S)
   either_sound test ts a rest h = either_at ts a rest (test ts) h
 
+  prefer_at : (test : Tokens → Bool) → ((front rest : Tokens) → test front ≡ true → test (front ++ rest) ≡ true) → (ts : Tokens) (a : A) (rest : Tokens) (b : Bool) → test ts ≡ b
+      → Gives ((if b then p else q) ts) a rest → Front (Prefer test R S) ts a rest
+  prefer_at test go ts a rest true e h = let f = s ts a rest h in record { front = f.front; is = f.is; spells = preferred f.spells }
+  prefer_at test go ts a rest false e h =
+      let f = t ts a rest h in
+      let fails = false_unless (test f.front) (λ k. let yes = go f.front rest k in let all = ap test f.is in cc) in
+      record { front = f.front; is = f.is; spells = otherwise fails f.spells }
+
+  prefer_sound : (test : Tokens → Bool) → ((front rest : Tokens) → test front ≡ true → test (front ++ rest) ≡ true) → Sound (λ ts. (if test ts then p else q) ts) (Prefer test R S)
+  prefer_sound test go ts a rest h = prefer_at test go ts a rest (test ts) refl h
+
 -- ---- any number of times
 
 -- the list was extended by what the tokens spell
@@ -206,34 +219,88 @@ module _ {A : Type 0} (marks : List Mark) (item : Parser A) (Item : Rel A) (s : 
 
 -- ---- a rule
 
-pub sound : {Part : Type 0} {Tree : Part → Type 0} (e : Edges Part) (R : (p : Part) → Rel (Tree p)) (inner here : (p : Part) → Parser (Tree p)) → ((p : Part) → Sound (inner p) (R p)) → ((p : Part) → Sound (here p) (R p)) → {A : Type 0} (r : Rule Tree A) → Sound (read e inner here r) (Spelled R r)
-sound e R inner here i s (part p) = s p
-sound e R inner here i s (inside p) = i p
-sound e R inner here i s (one k) = take_sound k
-sound e R inner here i s (nothing a) = nothing_sound a
-sound e R inner here i s (maybe m) = maybe_sound m
-sound e R inner here i s (◌before◌ m r) = before_sound m (read e inner here r) (Spelled R r) (sound e R inner here i s r)
-sound e R inner here i s (◌until◌ r m) = until_sound m (read e inner here r) (Spelled R r) (sound e R inner here i s r)
-sound e R inner here i s (◌then◌ r q) = then_sound (read e inner here r) (read e inner here q) (Spelled R r) (Spelled R q) (sound e R inner here i s r) (sound e R inner here i s q)
-sound e R inner here i s (make f r) = made_sound (read e inner here r) (Spelled R r) f (sound e R inner here i s r)
-sound e R inner here i s (check f r) = checked_sound (read e inner here r) (Spelled R r) f (sound e R inner here i s r)
-sound e R inner here i s (fork m r q) = fork_sound (read e inner here r) (read e inner here q) (Spelled R r) (Spelled R q) (sound e R inner here i s r) (sound e R inner here i s q) m
-sound e R inner here i s (◌or◌ r q) = either_sound (read e inner here r) (read e inner here q) (Spelled R r) (Spelled R q) (sound e R inner here i s r) (sound e R inner here i s q) (begins (starts e r))
-sound e R inner here i s (ahead test marks r q) = either_sound (read e inner here r) (read e inner here q) (Spelled R r) (Spelled R q) (sound e R inner here i s r) (sound e R inner here i s q) test
-sound e R inner here i s (links table r f) = links_sound table (read e inner here r) (Spelled R r) f (sound e R inner here i s r)
-sound e R inner here i s (link table r f) = link_sound table (read e inner here r) (Spelled R r) f (sound e R inner here i s r)
-sound e R inner here i s (many r) = many_sound (starts e r) (read e inner here r) (Spelled R r) (sound e R inner here i s r)
+-- the grammars that it stands on are lawful, and its tests go on to hold
+abbrev Finished : {Part : Type 0} {Tree : Part → Type 0} {A : Type 0} → Rule Tree A → Type 0
+Finished (part p) = Unit {0}
+Finished (inside p) = Unit {0}
+Finished (given g) = Lawful g
+Finished (one k) = Unit {0}
+Finished (nothing a) = Unit {0}
+Finished (maybe m) = Unit {0}
+Finished (◌before◌ m r) = Finished r
+Finished (◌until◌ r m) = Finished r
+Finished (◌then◌ r q) = Finished r × Finished q
+Finished (make f r) = Finished r
+Finished (check f r) = Finished r
+Finished (fork m r q) = Finished r × Finished q
+Finished (◌or◌ r q) = Finished r × Finished q
+Finished (ahead test marks r q) = Finished r × Finished q
+Finished (prefer test marks r q) = Finished r × Finished q × ((front rest : Tokens) → test front ≡ true → test (front ++ rest) ≡ true)
+Finished (links table r f) = Finished r
+Finished (link table r f) = Finished r
+Finished (many r) = Finished r
+
+module _ {Part : Type 0} {Tree : Part → Type 0} (e : Edges Part) (R : (p : Part) → Rel (Tree p)) (inner here : (p : Part) → Parser (Tree p)) where
+  finished : {A : Type 0} (r : Rule Tree A) → Told e R inner here r → Finished r
+  finished (part p) t = tt
+  finished (inside p) t = tt
+  finished (given g) t = t
+  finished (one k) t = tt
+  finished (nothing a) t = tt
+  finished (maybe m) t = tt
+  finished (◌before◌ m r) t = finished r t
+  finished (◌until◌ r m) t = finished r t
+  finished (◌then◌ r q) t = (finished r t.0, finished q t.1)
+  finished (make f r) t = finished r t
+  finished (check f r) t = finished r t
+  finished (fork m r q) t = (finished r t.0, finished q t.1)
+  finished (◌or◌ r q) t = (finished r t.0, finished q t.1)
+  finished (ahead test marks r q) t = (finished r t.0, finished q t.1)
+  finished (prefer test marks r q) t = (finished r t.0, finished q t.1, t.2)
+  finished (links table r f) t = finished r t
+  finished (link table r f) t = finished r t
+  finished (many r) t = finished r t
+
+given_sound : {A : Type 0} (g : Given A) → Lawful g → Sound g.reader g.spells
+given_sound g l ts a rest h = let f = l.sound ts rest a h in record { front = f.0; is = f.1; spells = f.2 }
+
+pub sound : {Part : Type 0} {Tree : Part → Type 0} (e : Edges Part) (R : (p : Part) → Rel (Tree p)) (inner here : (p : Part) → Parser (Tree p)) → ((p : Part) → Sound (inner p) (R p)) → ((p : Part) → Sound (here p) (R p)) → {A : Type 0} (r : Rule Tree A) → Finished r → Sound (read e inner here r) (Spelled R r)
+sound e R inner here i s (part p) t = s p
+sound e R inner here i s (inside p) t = i p
+sound e R inner here i s (given g) t = given_sound g t
+sound e R inner here i s (one k) t = take_sound k
+sound e R inner here i s (nothing a) t = nothing_sound a
+sound e R inner here i s (maybe m) t = maybe_sound m
+sound e R inner here i s (◌before◌ m r) t = before_sound m (read e inner here r) (Spelled R r) (sound e R inner here i s r t)
+sound e R inner here i s (◌until◌ r m) t = until_sound m (read e inner here r) (Spelled R r) (sound e R inner here i s r t)
+sound e R inner here i s (◌then◌ r q) t = then_sound (read e inner here r) (read e inner here q) (Spelled R r) (Spelled R q) (sound e R inner here i s r t.0) (sound e R inner here i s q t.1)
+sound e R inner here i s (make f r) t = made_sound (read e inner here r) (Spelled R r) f (sound e R inner here i s r t)
+sound e R inner here i s (check f r) t = checked_sound (read e inner here r) (Spelled R r) f (sound e R inner here i s r t)
+sound e R inner here i s (fork m r q) t = fork_sound (read e inner here r) (read e inner here q) (Spelled R r) (Spelled R q) (sound e R inner here i s r t.0) (sound e R inner here i s q t.1) m
+sound e R inner here i s (◌or◌ r q) t = either_sound (read e inner here r) (read e inner here q) (Spelled R r) (Spelled R q) (sound e R inner here i s r t.0) (sound e R inner here i s q t.1) (begins (starts e r))
+sound e R inner here i s (ahead test marks r q) t = either_sound (read e inner here r) (read e inner here q) (Spelled R r) (Spelled R q) (sound e R inner here i s r t.0) (sound e R inner here i s q t.1) test
+sound e R inner here i s (prefer test marks r q) t = prefer_sound (read e inner here r) (read e inner here q) (Spelled R r) (Spelled R q) (sound e R inner here i s r t.0) (sound e R inner here i s q t.1) test t.2
+sound e R inner here i s (links table r f) t = links_sound table (read e inner here r) (Spelled R r) f (sound e R inner here i s r t)
+sound e R inner here i s (link table r f) t = link_sound table (read e inner here r) (Spelled R r) f (sound e R inner here i s r t)
+sound e R inner here i s (many r) t = many_sound (starts e r) (read e inner here r) (Spelled R r) (sound e R inner here i s r t)
 
 -- ---- the parts of a grammar
 
-module _ {Part : Type 0} {Tree : Part → Type 0} (rule : (p : Part) → Rule Tree (Tree p)) (e : Edges Part) where
+module _ {Part : Type 0} {Tree : Part → Type 0} (rule : (p : Part) → Rule Tree (Tree p)) (e : Edges Part) (fit : (p : Part) → Fit rule e p) where
+  part_finished : (p : Part) → Finished (rule p)
+  part_finished p = finished e (Within rule 0) (read_inside rule e 0) (read_part rule e 0) (rule p) ((fit p).told 0 0)
+
   below_sound : (inner : (p : Part) → Parser (Tree p)) → ((p : Part) → Sound (inner p) (SpelledBy rule p)) → (k : ℕ) (p : Part) → Sound (read_below rule e inner k p) (SpelledBy rule p)
   below_sound inner s zero p ts a rest h = absurd (cc)
   below_sound inner s (suc k) p ts a rest h =
-      let f = sound e (SpelledBy rule) inner (read_below rule e inner k) s (below_sound inner s k) (rule p) ts a rest h in
+      let f = sound e (SpelledBy rule) inner (read_below rule e inner k) s (below_sound inner s k) (rule p) (part_finished p) ts a rest h in
       record { front = f.front; is = f.is; spells = spelled_by rule p a f.front f.spells }
 
   pub sound_inside : (d : ℕ) (p : Part) → Sound (read_inside rule e d p) (SpelledBy rule p)
   unfolding read_inside
   sound_inside zero p ts a rest h = absurd (cc)
   sound_inside (suc d) p ts a rest h = below_sound (read_inside rule e d) (sound_inside d) (suc (e.rank p)) p ts a rest h
+
+  pub sound_part : (d : ℕ) (p : Part) → Sound (read_part rule e d p) (SpelledBy rule p)
+  unfolding read_part
+  sound_part d p ts a rest h = below_sound (read_inside rule e d) (sound_inside d) (suc (e.rank p)) p ts a rest h

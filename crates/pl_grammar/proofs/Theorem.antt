@@ -38,6 +38,10 @@ module _ {Part : Type 0} {Tree : Part → Type 0} (rule : (p : Part) → Rule Tr
               (ap (λ (b : Bool). b || guarded e (rule p)) (sym free) ∙ f.guarded)),
         )
 
+    -- any part is read with one token fewer
+    pub complete_any : (h d : ℕ) (p : Part) → Complete d (read_part rule e d p) (Within rule h p) (e.goes_on p)
+    complete_any h d p = (complete_both h d p).0
+
     -- a part that isn't behind a token is read
     pub complete_part : (h d : ℕ) (p : Part) → e.behind p ≡ false → Complete (suc d) (read_part rule e d p) (Within rule h p) (e.goes_on p)
     complete_part h d p = (complete_both h d p).1

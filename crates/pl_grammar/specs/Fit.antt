@@ -3,7 +3,7 @@ use Rattle.std.specs.Prelude.{◌≡◌, ℕ, Bool, true, false, not, ◌&&◌, 
 use Rattle.pl_grammar.specs.Marks.{Tokens, Mark, keyword, sign, word, name, number, text, parameter, label, same_keyword, same_sign, same_text}
 use Rattle.pl_grammar.specs.Parser.{Parser, among}
 use Rattle.pl_grammar.specs.Relations.{Rel}
-use Rattle.pl_grammar.specs.Rule.{Rule, part, inside, one, nothing, maybe, ◌before◌, ◌until◌, ◌then◌, make, check, fork, ◌or◌, ahead, links, link, many, Edges, words, nullable, starts, read, Spelled, Within, read_inside, read_part}
+use Rattle.pl_grammar.specs.Rule.{Rule, Given, part, inside, given, one, nothing, maybe, ◌before◌, ◌until◌, ◌then◌, make, check, fork, ◌or◌, ahead, prefer, links, link, many, Edges, words, nullable, starts, read, Spelled, Within, read_inside, read_part}
 
 -- no token has both
 abbrev pub apart : Mark → Mark → Bool
@@ -57,6 +57,7 @@ module _ {Part : Type 0} {Tree : Part → Type 0} (e : Edges Part) where
   abbrev pub stops : {A : Type 0} → Rule Tree A → List Mark
   stops (part p) = e.goes_on p
   stops (inside p) = e.goes_on p
+  stops (given g) = g.goes_on
   stops (one s) = []
   stops (nothing a) = []
   stops (maybe m) = m ∷ []
@@ -68,6 +69,7 @@ module _ {Part : Type 0} {Tree : Part → Type 0} (e : Edges Part) where
   stops (fork m r s) = stops r ++ (stops s ++ (if nullable e s then m ∷ [] else []))
   stops (◌or◌ r s) = stops r ++ (stops s ++ (if nullable e s then starts e r else []))
   stops (ahead test marks r s) = stops r ++ (stops s ++ marks)
+  stops (prefer test marks r s) = stops r ++ (stops s ++ marks)
   stops (links table r f) = words table ++ stops r
   stops (link table r f) = words table ++ stops r
   stops (many r) = starts e r ++ stops r
@@ -76,6 +78,7 @@ module _ {Part : Type 0} {Tree : Part → Type 0} (e : Edges Part) where
   abbrev pub fits : {A : Type 0} → Rule Tree A → Bool
   fits (part p) = true
   fits (inside p) = not (e.behind p)
+  fits (given g) = true
   fits (one s) = true
   fits (nothing a) = true
   fits (maybe m) = true
@@ -87,6 +90,7 @@ module _ {Part : Type 0} {Tree : Part → Type 0} (e : Edges Part) where
   fits (fork m r s) = fits r && fits s && apart_all m (starts e s)
   fits (◌or◌ r s) = fits r && fits s && not (nullable e r) && clear (starts e r) (starts e s)
   fits (ahead test marks r s) = fits r && fits s
+  fits (prefer test marks r s) = fits r && fits s
   fits (links table r f) = fits r && clear (words table) (stops r)
   fits (link table r f) = fits r
   fits (many r) = fits r && not (nullable e r) && clear (starts e r) (stops r)
@@ -96,6 +100,7 @@ module _ {Part : Type 0} {Tree : Part → Type 0} (e : Edges Part) where
   abbrev pub guarded : {A : Type 0} → Rule Tree A → Bool
   guarded (part p) = not (e.behind p)
   guarded (inside p) = false
+  guarded (given g) = true
   guarded (one s) = true
   guarded (nothing a) = true
   guarded (maybe m) = true
@@ -107,6 +112,7 @@ module _ {Part : Type 0} {Tree : Part → Type 0} (e : Edges Part) where
   guarded (fork m r s) = guarded s
   guarded (◌or◌ r s) = guarded r && guarded s
   guarded (ahead test marks r s) = guarded r && guarded s
+  guarded (prefer test marks r s) = guarded r && guarded s
   guarded (links table r f) = true
   guarded (link table r f) = true
   guarded (many r) = guarded r
@@ -116,6 +122,7 @@ module _ {Part : Type 0} {Tree : Part → Type 0} where
   abbrev pub ranked : (Part → ℕ) → ℕ → {A : Type 0} → Rule Tree A → Bool
   ranked rank k (part p) = nat_lt (rank p) k
   ranked rank k (inside p) = true
+  ranked rank k (given g) = true
   ranked rank k (one s) = true
   ranked rank k (nothing a) = true
   ranked rank k (maybe m) = true
@@ -127,6 +134,7 @@ module _ {Part : Type 0} {Tree : Part → Type 0} where
   ranked rank k (fork m r s) = ranked rank k r && ranked rank k s
   ranked rank k (◌or◌ r s) = ranked rank k r && ranked rank k s
   ranked rank k (ahead test marks r s) = ranked rank k r && ranked rank k s
+  ranked rank k (prefer test marks r s) = ranked rank k r && ranked rank k s
   ranked rank k (links table r f) = ranked rank k r
   ranked rank k (link table r f) = ranked rank k r
   ranked rank k (many r) = ranked rank k r
@@ -136,11 +144,24 @@ abbrev pub Ends : List Mark → Tokens → Type 0
 Ends ms [] = Unit {0}
 Ends ms (t ∷ ts) = among ms t ≡ false
 
--- where a rule looks ahead: what the first rule spells passes the test, and what passes it and is read by the second would be followed by one of the marks
+-- the first token has one of the marks, or there may be none
+abbrev pub Begun : List Mark → Bool → Tokens → Type 0
+Begun ms is_empty [] = is_empty ≡ true
+Begun ms is_empty (t ∷ ts) = among ms t ≡ true
+
+-- another grammar is as it is said to be: what is read is spelled so, what is spelled is read where it ends, and it begins so
+pub record Lawful {A : Type 0} (g : Given A) : Type 0 where
+  pub sound : (ts rest : Tokens) (a : A) → g.reader ts ≡ Some (a, rest) → (front : Tokens) × (ts ≡ front ++ rest) × g.spells a front
+  pub complete : (a : A) (front rest : Tokens) → g.spells a front → Ends g.goes_on rest → g.reader (front ++ rest) ≡ Some (a, rest)
+  pub begun : (a : A) (front : Tokens) → g.spells a front → Begun g.firsts g.empty front
+
+-- another grammar is lawful, and where a rule looks ahead, what the first rule spells passes the test, and what passes it and is read by the
+-- second would be followed by one of the marks
 module _ {Part : Type 0} {Tree : Part → Type 0} (e : Edges Part) (R : (p : Part) → Rel (Tree p)) (inner here : (p : Part) → Parser (Tree p)) where
   abbrev pub Told : {A : Type 0} → Rule Tree A → Type 0
   Told (part p) = Unit {0}
   Told (inside p) = Unit {0}
+  Told (given g) = Lawful g
   Told (one s) = Unit {0}
   Told (nothing a) = Unit {0}
   Told (maybe m) = Unit {0}
@@ -154,6 +175,10 @@ module _ {Part : Type 0} {Tree : Part → Type 0} (e : Edges Part) (R : (p : Par
   Told (ahead {A = A} test marks r s) = Told r × Told s
       × ((a : A) (front rest : Tokens) → Spelled R r a front → test (front ++ rest) ≡ true)
       × ((ts rest : Tokens) (a : A) → test ts ≡ true → read e inner here s ts ≡ Some (a, rest) → Ends marks rest → ⊥)
+  Told (prefer {A = A} test marks r s) = Told r × Told s
+      × ((front rest : Tokens) → test front ≡ true → test (front ++ rest) ≡ true)
+      × ((a : A) (front rest : Tokens) → Spelled R r a front → test (front ++ rest) ≡ true)
+      × ((a : A) (front rest : Tokens) → Spelled R s a front → test front ≡ false → test (front ++ rest) ≡ true → Ends marks rest → ⊥)
   Told (links table r f) = Told r
   Told (link table r f) = Told r
   Told (many r) = Told r

@@ -1,6 +1,7 @@
 -- Parsers as functions on lists of tokens.
 use Rattle.std.specs.Prelude.{◌≡◌, ℕ, zero, suc, Bool, true, false, ◌&&◌, if◌then◌else◌, List, [], ◌∷◌, ◌++◌, length, drop, Option, Some, None, Result, Ok, Err}
 use Rattle.pl_lex.specs.declared.token.TokenKind.{TokenKind}
+use Rattle.pl_lex.specs.declared.token.TokenKind.TheVariants as kind
 use Rattle.pl_grammar.specs.Marks.{Tokens, Mark, marked, Sort, Carried, carried}
 use Rattle.pl_grammar.specs.declared.fail.Fail.{Fail}
 use Rattle.pl_grammar.specs.declared.fail.Fail.TheVariants.{Syntax}
@@ -51,6 +52,12 @@ sees_two m n _ = false
 unfoldable pub sees_three : Mark → Mark → Mark → Tokens → Bool
 sees_three m n o (s ∷ t ∷ u ∷ ts) = marked m s && marked n t && marked o u
 sees_three m n o _ = false
+
+-- a word comes next, reserved or not
+unfoldable pub sees_any_word : Tokens → Bool
+sees_any_word (kind.Word n ∷ ts) = true
+sees_any_word (kind.Keyword n ∷ ts) = true
+sees_any_word _ = false
 
 -- takes a token of the sort
 unfoldable pub take : (s : Sort) → Parser (Carried s)

@@ -50,6 +50,11 @@ pub data Either {A : Type 0} (R S : Rel A) : A → Tokens → Type 0 where
   first : {a : A} {xs : Tokens} → R a xs → Either R S a xs
   second : {a : A} {xs : Tokens} → S a xs → Either R S a xs
 
+-- the first, or the second where what it spells fails the test
+pub data Prefer {A : Type 0} (test : Tokens → Bool) (R S : Rel A) : A → Tokens → Type 0 where
+  preferred : {a : A} {xs : Tokens} → R a xs → Prefer test R S a xs
+  otherwise : {a : A} {xs : Tokens} → test xs ≡ false → S a xs → Prefer test R S a xs
+
 -- any number of times a mark of the table and an item
 pub data Links {O A B : Type 0} (table : List (Mark × O)) (Item : Rel A) (make : O → A → B) : List B → Tokens → Type 0 where
   no_link : Links table Item make [] []

@@ -2,7 +2,16 @@
 use Rattle.std.specs.Prelude.{◌≡◌, ℕ, zero, suc, ◌<◌, Bool, true, false, not, ◌&&◌, ◌||◌, nat_lt, if◌then◌else◌, List, [], ◌∷◌, ◌++◌, length, Option, Some, None}
 use Rattle.pl_grammar.specs.Marks.{Tokens, Mark, Sort, Carried, mark_of}
 use Rattle.pl_grammar.specs.Parser.{Parser, and_then, with_rest, pure, sees, after, eat, expect, take, begins, joins, links_from, link_at, many_from}
-use Rattle.pl_grammar.specs.Relations.{Rel, One, Then, Before, Until, Made, Checked, Empty, Maybe, Fork, Either, Links, Link, Many}
+use Rattle.pl_grammar.specs.Relations.{Rel, One, Then, Before, Until, Made, Checked, Empty, Maybe, Fork, Either, Prefer, Links, Link, Many}
+
+-- what another grammar spells, how it is read, the marks that it may begin with, those that would go on with it, and whether no token may
+-- spell it
+pub record Given (A : Type 0) : Type 1 where
+  pub spells : Rel A
+  pub reader : Parser A
+  pub firsts : List Mark
+  pub goes_on : List Mark
+  pub empty : Bool
 
 infixr 11 ◌then◌
 infixr 12 ◌before◌
@@ -13,6 +22,8 @@ pub data Rule {Part : Type 0} (Tree : Part → Type 0) : Type 0 → Type 1 where
   -- another part, and one that stands in brackets or behind a word
   part : (p : Part) → Rule Tree (Tree p)
   inside : (p : Part) → Rule Tree (Tree p)
+  -- what another grammar spells
+  given : {A : Type 0} → Given A → Rule Tree A
   -- a token that carries a value
   one : (s : Sort) → Rule Tree (Carried s)
   -- no token, which stands for a value
@@ -30,6 +41,9 @@ pub data Rule {Part : Type 0} (Tree : Part → Type 0) : Type 0 → Type 1 where
   ◌or◌ : {A : Type 0} → Rule Tree A → Rule Tree A → Rule Tree A
   -- one or the other, as a test of the tokens ahead tells. Where the test holds, the second would be followed by one of the marks.
   ahead : {A : Type 0} → (Tokens → Bool) → List Mark → Rule Tree A → Rule Tree A → Rule Tree A
+  -- the first where a test of the tokens holds, and else the second, of tokens that fail the test. Where what the second spells would pass the
+  -- test with what follows, that is one of the marks.
+  prefer : {A : Type 0} → (Tokens → Bool) → List Mark → Rule Tree A → Rule Tree A → Rule Tree A
   -- any number of times, and at most once, a mark of a table and an item
   links : {O A B : Type 0} → List (Mark × O) → Rule Tree A → (O → A → B) → Rule Tree (List B)
   link : {O A B : Type 0} → List (Mark × O) → Rule Tree A → (O → A → B) → Rule Tree (Option B)
@@ -42,6 +56,7 @@ module _ {Part : Type 0} {Tree : Part → Type 0} (R : (p : Part) → Rel (Tree 
   abbrev pub Spelled : {A : Type 0} → Rule Tree A → Rel A
   Spelled (part p) = R p
   Spelled (inside p) = R p
+  Spelled (given g) = g.spells
   Spelled (one s) = One s
   Spelled (nothing a) = Empty a
   Spelled (maybe m) = Maybe m
@@ -53,6 +68,7 @@ module _ {Part : Type 0} {Tree : Part → Type 0} (R : (p : Part) → Rel (Tree 
   Spelled (fork m r s) = Fork m (Spelled r) (Spelled s)
   Spelled (◌or◌ r s) = Either (Spelled r) (Spelled s)
   Spelled (ahead test marks r s) = Either (Spelled r) (Spelled s)
+  Spelled (prefer test marks r s) = Prefer test (Spelled r) (Spelled s)
   Spelled (links table r f) = Links table (Spelled r) f
   Spelled (link table r f) = Link table (Spelled r) f
   Spelled (many r) = Many (Spelled r)
@@ -86,6 +102,7 @@ module _ {Part : Type 0} {Tree : Part → Type 0} (e : Edges Part) where
   abbrev pub nullable : {A : Type 0} → Rule Tree A → Bool
   nullable (part p) = e.empty p
   nullable (inside p) = e.empty p
+  nullable (given g) = g.empty
   nullable (one s) = false
   nullable (nothing a) = true
   nullable (maybe m) = true
@@ -97,6 +114,7 @@ module _ {Part : Type 0} {Tree : Part → Type 0} (e : Edges Part) where
   nullable (fork m r s) = nullable s
   nullable (◌or◌ r s) = nullable r || nullable s
   nullable (ahead test marks r s) = nullable r || nullable s
+  nullable (prefer test marks r s) = nullable r || nullable s
   nullable (links table r f) = true
   nullable (link table r f) = true
   nullable (many r) = true
@@ -105,6 +123,7 @@ module _ {Part : Type 0} {Tree : Part → Type 0} (e : Edges Part) where
   abbrev pub starts : {A : Type 0} → Rule Tree A → List Mark
   starts (part p) = e.firsts p
   starts (inside p) = e.firsts p
+  starts (given g) = g.firsts
   starts (one s) = mark_of s ∷ []
   starts (nothing a) = []
   starts (maybe m) = m ∷ []
@@ -116,6 +135,7 @@ module _ {Part : Type 0} {Tree : Part → Type 0} (e : Edges Part) where
   starts (fork m r s) = m ∷ starts s
   starts (◌or◌ r s) = starts r ++ starts s
   starts (ahead test marks r s) = starts r ++ starts s
+  starts (prefer test marks r s) = starts r ++ starts s
   starts (links table r f) = words table
   starts (link table r f) = words table
   starts (many r) = starts r
@@ -124,6 +144,7 @@ module _ {Part : Type 0} {Tree : Part → Type 0} (e : Edges Part) where
     abbrev pub read : {A : Type 0} → Rule Tree A → Parser A
     read (part p) = here p
     read (inside p) = inner p
+    read (given g) = g.reader
     read (one s) = take s
     read (nothing a) = pure a
     read (maybe m) = eat m
@@ -135,6 +156,7 @@ module _ {Part : Type 0} {Tree : Part → Type 0} (e : Edges Part) where
     read (fork m r s) = λ ts. (if sees m ts then read r else read s) (after m ts)
     read (◌or◌ r s) = λ ts. (if begins (starts r) ts then read r else read s) ts
     read (ahead test marks r s) = λ ts. (if test ts then read r else read s) ts
+    read (prefer test marks r s) = λ ts. (if test ts then read r else read s) ts
     read (links table r f) = λ ts. links_from table (read r) f (length ts) [] ts
     read (link table r f) = λ ts. link_at table (read r) f (joins table ts) ts
     read (many r) = λ ts. many_from (starts r) (read r) (length ts) [] ts

@@ -5,6 +5,7 @@
 mod depth;
 mod fail;
 mod keywords;
+mod lists;
 #[cfg(test)]
 mod tests;
 mod tokens;
@@ -12,4 +13,5 @@ mod tokens;
 pub use depth::{MAX_PARTS, deep};
 pub use fail::{Fail, ParseFail};
 pub use keywords::keyword_text;
+pub use lists::joined;
 pub use tokens::Tokens;

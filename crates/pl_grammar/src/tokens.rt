@@ -1,6 +1,6 @@
 //! A cursor over tokens.
 
-ghost use Rattle.std.specs.Prelude.{◌≡◌, ◌≤◌, [], ◌∷◌, length, drop, option_copied};
+ghost use Rattle.std.specs.Prelude.{◌≡◌, ◌≤◌, suc, [], ◌∷◌, length, drop, option_copied};
 ghost use Rattle.pl_grammar.specs.Keywords as keywords;
 ghost use Rattle.pl_grammar.specs.Marks as mark;
 ghost use Rattle.pl_grammar.specs.Parser as parser;
@@ -119,6 +119,13 @@ impl<'a> Tokens<'a> {
         self.rest.len()
     }
 
+    /// One more than how many are left: parts of them stand inside one another less deep.
+    pub fn depth_bound(&self) -> usize
+        ensures { result ≡ suc (length self.now) }
+    {
+        self.rest.len() + 1
+    }
+
     fn peek(&self) -> Option<&'a TokenKind>
         ensures { option_copied result ≡ parser.head self.now }
     {
@@ -215,6 +222,18 @@ impl<'a> Tokens<'a> {
         }
     }
 
+    /// Whether a word comes next, reserved or not.
+    #[tactic(auto, unfolding(crate::specs::Parser::sees_any_word))]
+    pub fn sees_any_word(&self) -> bool
+        ensures { result ≡ parser.sees_any_word self.now }
+    {
+        match self.peek() {
+            Some(TokenKind::Word(_)) => true,
+            Some(TokenKind::Keyword(_)) => true,
+            _ => false,
+        }
+    }
+
     /// Whether this word comes next, and then this sign.
     #[tactic(auto, unfolding(crate::specs::Parser::sees_two))]
     pub fn sees_word_before(&self, word: &str, sign: Sign) -> bool
@@ -237,6 +256,41 @@ impl<'a> Tokens<'a> {
         is_name(&self.rest[0].kind)
             && is_sign(&self.rest[1].kind, first)
             && is_sign(&self.rest[2].kind, second)
+    }
+
+    /// Whether this word comes next, and then a name.
+    #[tactic(auto, unfolding(crate::specs::Parser::sees_two))]
+    pub fn sees_word_before_name(&self, word: &str) -> bool
+        ensures { result ≡ parser.sees_two (mark.word word.now) mark.name self.now }
+    {
+        if self.rest.len() < 2 {
+            return false;
+        }
+        is_word(&self.rest[0].kind, word) && is_name(&self.rest[1].kind)
+    }
+
+    /// Whether two names come next.
+    #[tactic(auto, unfolding(crate::specs::Parser::sees_two))]
+    pub fn sees_two_names(&self) -> bool
+        ensures { result ≡ parser.sees_two mark.name mark.name self.now }
+    {
+        if self.rest.len() < 2 {
+            return false;
+        }
+        is_name(&self.rest[0].kind) && is_name(&self.rest[1].kind)
+    }
+
+    /// Whether two names come next with this word between them.
+    #[tactic(auto, unfolding(crate::specs::Parser::sees_three))]
+    pub fn sees_word_between_names(&self, word: &str) -> bool
+        ensures { result ≡ parser.sees_three mark.name (mark.word word.now) mark.name self.now }
+    {
+        if self.rest.len() < 3 {
+            return false;
+        }
+        is_name(&self.rest[0].kind)
+            && is_word(&self.rest[1].kind, word)
+            && is_name(&self.rest[2].kind)
     }
 
     /// Takes this reserved word, if it comes next.

@@ -1,0 +1,124 @@
+//! What other grammars have of expressions and queries, read at the front of tokens.
+
+ghost use Rattle.pl_grammar.specs.Parser.{Reads};
+ghost use Rattle.pl_expr_parse.specs.Grammar as spec;
+ghost use Rattle.pl_expr_parse.specs.Finished.{reads_front};
+
+use crate::grammar::Grammar;
+use crate::parse::{expression, query, source};
+use pl_base::{List, Name, Ty};
+use pl_grammar::{Fail, Tokens};
+use pl_tree::{Argument, Expr, Item, Query};
+use std::alloc::Global;
+
+/// An expression.
+#[tactic(auto, unfolding(crate::specs::Finished::reads_front))]
+pub fn read_expression(alloc: Global, tokens: &mut Tokens<'_>) -> Result<Expr, Fail>
+    ensures { Reads (reads_front spec.Expression tokens.old) result tokens.new }
+{
+    let depth = tokens.depth_bound();
+    Grammar {
+        alloc,
+        depth,
+        expression,
+        query,
+        source,
+    }
+    .disjunction(tokens)
+}
+
+/// An expression of level 6, on which `||` stands, or of a tighter one.
+#[tactic(auto, unfolding(crate::specs::Finished::reads_front))]
+pub fn read_operand(alloc: Global, tokens: &mut Tokens<'_>) -> Result<Expr, Fail>
+    ensures { Reads (reads_front spec.Concatenation tokens.old) result tokens.new }
+{
+    let depth = tokens.depth_bound();
+    Grammar {
+        alloc,
+        depth,
+        expression,
+        query,
+        source,
+    }
+    .concatenation(tokens)
+}
+
+/// A query.
+#[tactic(auto, unfolding(crate::specs::Finished::reads_front))]
+pub fn read_query(alloc: Global, tokens: &mut Tokens<'_>) -> Result<Query, Fail>
+    ensures { Reads (reads_front spec.Query tokens.old) result tokens.new }
+{
+    let depth = tokens.depth_bound();
+    Grammar {
+        alloc,
+        depth,
+        expression,
+        query,
+        source,
+    }
+    .query(tokens)
+}
+
+/// The items of a select list: at least one.
+#[tactic(auto, unfolding(crate::specs::Finished::reads_front))]
+pub fn read_items(alloc: Global, tokens: &mut Tokens<'_>) -> Result<List<Item>, Fail>
+    ensures { Reads (reads_front spec.Items tokens.old) result tokens.new }
+{
+    let depth = tokens.depth_bound();
+    Grammar {
+        alloc,
+        depth,
+        expression,
+        query,
+        source,
+    }
+    .items(tokens)
+}
+
+/// The arguments of a call behind its opening bracket, and the closing one.
+#[tactic(auto, unfolding(crate::specs::Finished::reads_front))]
+pub fn read_arguments(alloc: Global, tokens: &mut Tokens<'_>) -> Result<List<Argument>, Fail>
+    ensures { Reads (reads_front spec.Arguments tokens.old) result tokens.new }
+{
+    let depth = tokens.depth_bound();
+    Grammar {
+        alloc,
+        depth,
+        expression,
+        query,
+        source,
+    }
+    .arguments(tokens)
+}
+
+/// The alias of a table, if there is one.
+#[tactic(auto, unfolding(crate::specs::Finished::reads_front))]
+pub fn read_alias(alloc: Global, tokens: &mut Tokens<'_>) -> Result<Option<Name>, Fail>
+    ensures { Reads (reads_front spec.Alias tokens.old) result tokens.new }
+{
+    let depth = tokens.depth_bound();
+    Grammar {
+        alloc,
+        depth,
+        expression,
+        query,
+        source,
+    }
+    .alias(tokens)
+}
+
+/// A type.
+#[tactic(auto, unfolding(crate::specs::Finished::reads_front))]
+pub fn read_type(alloc: Global, tokens: &mut Tokens<'_>) -> Result<Ty, Fail>
+    ensures { Reads (reads_front spec.TypeName tokens.old) result tokens.new }
+{
+    let depth = tokens.depth_bound();
+    Grammar {
+        alloc,
+        depth,
+        expression,
+        query,
+        source,
+    }
+    .type_name(tokens)
+}
