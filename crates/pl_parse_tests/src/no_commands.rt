@@ -1,0 +1,254 @@
+//! Texts that are no commands.
+
+/// Lines that no tree spells. One that begins with `--` says what follows.
+pub(crate) const NO_COMMANDS: &str = r#"
+-- No command begins so.
+a
+foo bar
+1
+'text'
+$1
+(
+()
+;
+*
+(SELECT 1)
+SELECT 1;
+SELECT 1; SELECT 2
+NULL
+AS
+alters t
+sets a
+reassigned
+transaction
+work
+language plpgsql 'x'
+"select" 1
+"insert" INTO t VALUES (1)
+"begin"
+"commit"
+"create" TABLE t (a integer)
+"drop" TABLE t
+"do" 'x'
+"call" f()
+"savepoint" a
+-- Queries.
+SELECT
+SELECT 1 2
+SELECT 1 INTO a
+SELECT 1 FROM t FOR UPDATE
+SELECT 1 UNION SELECT 2
+SELECT 1 RETURNING a
+SELECT 1 LANGUAGE plpgsql
+-- INSERT.
+INSERT
+INSERT INTO
+INSERT t VALUES (1)
+INSERT INTO t
+INSERT INTO t VALUES
+INSERT INTO t VALUES ()
+INSERT INTO t VALUES 1
+INSERT INTO t VALUES (1
+INSERT INTO t VALUES (1,)
+INSERT INTO t VALUES (1),
+INSERT INTO t VALUES (1) (2)
+INSERT INTO t VALUES (1), 2
+INSERT INTO t VALUES (DEFAULT + 1)
+INSERT INTO t VALUES ((DEFAULT))
+INSERT INTO t VALUES (SELECT 1)
+INSERT INTO t VALUES (*)
+INSERT INTO t () VALUES (1)
+INSERT INTO t (a,) VALUES (1)
+INSERT INTO t (1) VALUES (1)
+INSERT INTO t (t.a) VALUES (1)
+INSERT INTO t (select) VALUES (1)
+INSERT INTO t (a) (b) VALUES (1)
+INSERT INTO t (a) AS u VALUES (1)
+INSERT INTO t u VALUES (1)
+INSERT INTO t AS VALUES (1)
+INSERT INTO t AS select VALUES (1)
+INSERT INTO values VALUES (1)
+INSERT INTO s.t VALUES (1)
+INSERT INTO t DEFAULT
+INSERT INTO t DEFAULT VALUES (1)
+INSERT INTO t DEFAULT VALUES, DEFAULT VALUES
+INSERT INTO t (SELECT 1)
+INSERT INTO t SELECT
+INSERT INTO t SELECT 1, DEFAULT
+INSERT INTO t RETURNING a
+INSERT INTO t VALUES (1) RETURNING
+INSERT INTO t VALUES (1) RETURNING a RETURNING b
+INSERT INTO t VALUES (1) WHERE a
+INSERT INTO t VALUES (1) ON CONFLICT DO NOTHING
+INSERT INTO t SET a = 1
+-- UPDATE.
+UPDATE
+UPDATE t
+UPDATE t SET
+UPDATE t SET a
+UPDATE t SET a =
+UPDATE t SET a 1
+UPDATE t SET a := 1
+UPDATE t SET a == 1
+UPDATE t SET = 1
+UPDATE t SET 1 = a
+UPDATE t a = 1
+UPDATE t SET a = 1,
+UPDATE t SET a = 1, = 2
+UPDATE t SET a = 1 b = 2
+UPDATE t SET a = DEFAULT + 1
+UPDATE t SET a = (DEFAULT)
+UPDATE t SET (a, b) = (1, 2)
+UPDATE t SET t.a = 1
+UPDATE t SET select = 1
+UPDATE t SET a = 1 FROM u
+UPDATE t SET a = 1 WHERE
+UPDATE t SET a = 1 WHERE a WHERE b
+UPDATE t SET a = 1 WHERE CURRENT OF c
+UPDATE t SET a = 1 RETURNING
+UPDATE t SET a = 1 RETURNING a WHERE b
+UPDATE t SET a = 1 ORDER BY a
+UPDATE t u v SET a = 1
+UPDATE t AS SET a = 1
+UPDATE t AS u v SET a = 1
+UPDATE t AS select SET a = 1
+UPDATE t select SET a = 1
+UPDATE t "set" a = 1
+UPDATE t "set" = 1
+UPDATE t set set
+UPDATE set set = 1
+UPDATE t AS set = 1
+UPDATE t u set = 1
+UPDATE t set set set set = 1
+UPDATE SET a = 1
+UPDATE s.t SET a = 1
+-- DELETE.
+DELETE
+DELETE t
+DELETE FROM
+DELETE FROM select
+DELETE FROM t, u
+DELETE FROM t u v
+DELETE FROM t AS
+DELETE FROM t AS select
+DELETE FROM t USING u
+DELETE FROM t WHERE
+DELETE FROM t WHERE a b
+DELETE FROM t WHERE a WHERE b
+DELETE FROM t RETURNING
+DELETE FROM t RETURNING a WHERE b
+DELETE FROM t WHERE CURRENT OF c
+DELETE FROM t ORDER BY a
+DELETE FROM t LIMIT 1
+DELETE FROM (t)
+DELETE FROM s.t
+-- DO.
+DO
+DO x
+DO 1
+DO LANGUAGE
+DO LANGUAGE plpgsql
+DO 'x' LANGUAGE
+DO LANGUAGE 'plpgsql' 'x'
+DO 'x' LANGUAGE 'plpgsql'
+DO 'x' 'y'
+DO 'x' plpgsql
+DO plpgsql 'x'
+DO LANGUAGE plpgsql 'x' LANGUAGE plpgsql
+DO 'x' LANGUAGE plpgsql LANGUAGE plpgsql
+DO LANGUAGE select 'x'
+DO "language" plpgsql 'x'
+DO ('x')
+DO AS 'x'
+-- CALL.
+CALL
+CALL f
+CALL f(
+CALL f)
+CALL f(1
+CALL f(1,)
+CALL f(,1)
+CALL f(1 2)
+CALL f() g
+CALL f() ()
+CALL f(1)(2)
+CALL (f())
+CALL s.f()
+CALL 'f'()
+CALL select()
+CALL count(*)
+CALL f(*)
+CALL f(SELECT 1)
+CALL f(a => 1)
+CALL f(a := 1)
+CALL f(fatal_errors => false)
+CALL f("fatal_errors" => false)
+CALL plpgsql_check_function(fatal_errors => false, 'f()')
+CALL plpgsql_check_function(fatal_errors => false, fatal_errors => true)
+CALL plpgsql_check_function('f()', "fatal_errors" => false)
+CALL plpgsql_check_function('f()', fatal_errors =>)
+CALL plpgsql_check_function('f()', others => false)
+CALL "Plpgsql_check_function"('f()', fatal_errors => false)
+CALL f() AS a
+CALL 1 + f()
+-- Transactions.
+BEGIN a
+BEGIN WORK TRANSACTION
+BEGIN WORK WORK
+BEGIN "work"
+BEGIN TRANSACTION READ ONLY
+BEGIN ISOLATION LEVEL SERIALIZABLE
+BEGIN TO a
+START
+START WORK
+START a
+START "transaction"
+START TRANSACTION TRANSACTION
+START TRANSACTION READ WRITE
+COMMIT a
+COMMIT TO a
+COMMIT AND CHAIN
+COMMIT WORK TRANSACTION
+COMMIT PREPARED 'a'
+END a
+END IF
+END TO a
+END WORK WORK
+ROLLBACK a
+ROLLBACK AND CHAIN
+ROLLBACK WORK TRANSACTION
+ROLLBACK PREPARED 'a'
+ROLLBACK SAVEPOINT a
+ABORT a
+ABORT TO a
+ABORT WORK TO SAVEPOINT a
+-- Savepoints.
+SAVEPOINT
+SAVEPOINT 1
+SAVEPOINT 'a'
+SAVEPOINT select
+SAVEPOINT a b
+SAVEPOINT SAVEPOINT a
+SAVEPOINT TO a
+RELEASE
+RELEASE 'a'
+RELEASE select
+RELEASE a b
+RELEASE SAVEPOINT 1
+RELEASE SAVEPOINT a b
+RELEASE "savepoint" a
+RELEASE WORK SAVEPOINT a
+RELEASE SAVEPOINT SAVEPOINT a
+ROLLBACK TO
+ROLLBACK TO 1
+ROLLBACK TO a b
+ROLLBACK TO select
+ROLLBACK TO SAVEPOINT 'a'
+ROLLBACK TO SAVEPOINT a b
+ROLLBACK TO "savepoint" a
+ROLLBACK TO WORK a
+ROLLBACK TO a WORK
+ROLLBACK WORK TRANSACTION TO a
+ROLLBACK "work" TO a
+ROLLBACK TO SAVEPOINT SAVEPOINT a
+"#;

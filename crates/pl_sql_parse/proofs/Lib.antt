@@ -1,0 +1,11 @@
+pub mod Fits
+pub mod Step
+pub mod Told
+pub mod Flat
+pub mod Theorem
+pub mod Placed
+pub mod Which
+pub mod Calls
+pub mod OneCommand
+pub mod Results
+pub mod Procedures

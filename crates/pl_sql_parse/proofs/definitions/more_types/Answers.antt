@@ -1,0 +1,30 @@
+use Rattle.std.proofs.Common.{◌≡◌, ◌-◌, ◌+◌, true, false, rules, arith}
+use Rattle.std.proofs.lemmas.Grind.{common_steps}
+use Rattle.pl_grammar.specs.Parser.{sees, links_from}
+use Rattle.pl_grammar.specs.Forms.{alone, by}
+use Rattle.pl_grammar.specs.Words.{COMMA}
+use Rattle.pl_expr_parse.specs.Grammar as x
+use Rattle.pl_expr_parse.specs.Finished.{reads_front}
+use Rattle.pl_grammar.proofs.Turns.{one_turn, link_ends, link_more}
+use Rattle.pl_sql_parse.proofs.definitions.more_types.Goals as goal
+
+pub returns-then-not-eat_sign : goal.returns-then-not-eat_sign
+returns-then-not-eat_sign c =
+    let e = one_turn (λ n. links_from (by COMMA) (reads_front x.TypeName) alone n c.loop-turn.found c.loop-turn.tokens) _ c.loop-turn._turn c.loop-turn-test.true c.loop-turn.invariant in
+    let seen : sees COMMA c.loop-turn.tokens ≡ false = search rules in
+    let m = link_ends COMMA (reads_front x.TypeName) alone (c.left-turn-end.result - (c.loop-turn._turn + 1)) c.loop-turn.found c.loop-turn.tokens seen in
+    first_of (search rules, cc)
+
+pub returns-in_err-read_type : goal.returns-in_err-read_type
+returns-in_err-read_type c =
+    let e = one_turn (λ n. links_from (by COMMA) (reads_front x.TypeName) alone n c.loop-turn.found c.loop-turn.tokens) _ c.loop-turn._turn c.loop-turn-test.true c.loop-turn.invariant in
+    let seen : sees COMMA c.loop-turn.tokens ≡ true = search rules in
+    let m = link_more COMMA (reads_front x.TypeName) alone (c.left-turn-end.result - (c.loop-turn._turn + 1)) c.loop-turn.found c.loop-turn.tokens seen in
+    first_of (search rules, grind (arith, common_steps))
+
+pub loop-turn-preserved : goal.loop-turn-preserved
+loop-turn-preserved c =
+    let e = one_turn (λ n. links_from (by COMMA) (reads_front x.TypeName) alone n c.loop-turn.found c.loop-turn.tokens) _ c.loop-turn._turn c.loop-turn-test.true c.loop-turn.invariant in
+    let seen : sees COMMA c.loop-turn.tokens ≡ true = search rules in
+    let m = link_more COMMA (reads_front x.TypeName) alone (c.left-turn-end.result - (c.loop-turn._turn + 1)) c.loop-turn.found c.loop-turn.tokens seen in
+    first_of (search rules, grind (arith, common_steps))

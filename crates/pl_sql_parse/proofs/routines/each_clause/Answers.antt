@@ -1,0 +1,28 @@
+use Rattle.std.proofs.Common.{◌≡◌, ◌-◌, ◌+◌, true, false, rules, arith}
+use Rattle.std.proofs.lemmas.Grind.{common_steps}
+use Rattle.pl_grammar.specs.Parser.{begins, many_from}
+use Rattle.pl_sql_parse.specs.Grammar.{Clause}
+use Rattle.pl_sql_parse.specs.Edges.{reads_part, firsts}
+use Rattle.pl_grammar.proofs.Turns.{one_turn, many_ends, many_more}
+use Rattle.pl_sql_parse.proofs.routines.each_clause.Goals as goal
+
+pub returns-then-not-sees_clause : goal.returns-then-not-sees_clause
+returns-then-not-sees_clause c =
+    let e = one_turn (λ n. many_from (firsts Clause) (reads_part Clause) n c.loop-turn.found c.loop-turn.tokens) _ c.loop-turn._turn c.loop-turn-test.true c.loop-turn.invariant in
+    let seen : begins (firsts Clause) c.loop-turn.tokens ≡ false = search rules in
+    let m = many_ends (firsts Clause) (reads_part Clause) (c.left-turn-end.result - (c.loop-turn._turn + 1)) c.loop-turn.found c.loop-turn.tokens seen in
+    first_of (search rules, cc)
+
+pub returns-in_err-clause : goal.returns-in_err-clause
+returns-in_err-clause c =
+    let e = one_turn (λ n. many_from (firsts Clause) (reads_part Clause) n c.loop-turn.found c.loop-turn.tokens) _ c.loop-turn._turn c.loop-turn-test.true c.loop-turn.invariant in
+    let seen : begins (firsts Clause) c.loop-turn.tokens ≡ true = search rules in
+    let m = many_more (firsts Clause) (reads_part Clause) (c.left-turn-end.result - (c.loop-turn._turn + 1)) c.loop-turn.found c.loop-turn.tokens seen in
+    first_of (search rules, grind (arith, common_steps))
+
+pub loop-turn-preserved : goal.loop-turn-preserved
+loop-turn-preserved c =
+    let e = one_turn (λ n. many_from (firsts Clause) (reads_part Clause) n c.loop-turn.found c.loop-turn.tokens) _ c.loop-turn._turn c.loop-turn-test.true c.loop-turn.invariant in
+    let seen : begins (firsts Clause) c.loop-turn.tokens ≡ true = search rules in
+    let m = many_more (firsts Clause) (reads_part Clause) (c.left-turn-end.result - (c.loop-turn._turn + 1)) c.loop-turn.found c.loop-turn.tokens seen in
+    first_of (search rules, grind (arith, common_steps))

@@ -1,0 +1,10 @@
+use Rattle.std.proofs.Common.{[], ◌≡◌, ◌-◌, length}
+use Rattle.pl_grammar.specs.Parser.{links_from}
+use Rattle.pl_grammar.specs.Forms.{alone, by}
+use Rattle.pl_grammar.specs.Words.{COMMA}
+use Rattle.pl_sql_parse.specs.Grammar.{Param}
+use Rattle.pl_sql_parse.specs.Edges.{reads_part}
+use Rattle.pl_sql_parse.proofs.routines.more_params.Given as goal
+
+abbrev pub invariant-loop-turn : goal.invariant-loop-turn
+invariant-loop-turn l = links_from (by COMMA) (reads_part Param) alone (length l.fn.tokens) [] l.fn.tokens ≡ links_from (by COMMA) (reads_part Param) alone (l._turn-end - l._turn) l.found l.tokens

@@ -1,0 +1,9 @@
+use Rattle.std.proofs.Common.{◌≡◌, length}
+use Rattle.pl_sql_parse.specs.Trees.{is_none, bodies}
+use Rattle.pl_sql_parse.proofs.trees.has_no_body.Given as goal
+
+abbrev pub invariant-loop-clauses : goal.invariant-loop-clauses
+invariant-loop-clauses l = is_none (bodies l.fn.clauses) ≡ is_none (bodies l.clauses)
+
+abbrev pub decreases-loop-clauses : goal.decreases-loop-clauses
+decreases-loop-clauses l = length l.clauses

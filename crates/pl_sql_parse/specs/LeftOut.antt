@@ -1,0 +1,29 @@
+-- The commands that are left out, as their first words tell.
+use Rattle.std.specs.Prelude.{Bool, ◌&&◌, ◌||◌, not, List, [], ◌∷◌}
+use Rattle.std.specs.List.{list_any}
+use Rattle.pl_grammar.specs.Marks.{Tokens, Mark, word}
+use Rattle.pl_grammar.specs.Parser.{sees, after, begins, sees_any_word}
+use Rattle.pl_grammar.specs.Words.{OR}
+use Rattle.pl_sql_parse.specs.Words.{CREATE, DECLARE, DROP, EXECUTE, TABLE, FUNCTION, PROCEDURE, TRIGGER, VALUES, WITH}
+use Rattle.pl_sql_parse.specs.declared.left_out.TheConstants.{LEFT_OUT}
+
+-- the reserved words among those that begin such a command; `LEFT_OUT` has the others
+abbrev pub reserved : List Mark
+reserved = DECLARE ∷ EXECUTE ∷ TABLE ∷ VALUES ∷ WITH ∷ []
+
+unfoldable pub begins_left_out : Tokens → Bool
+begins_left_out ts = begins reserved ts || list_any (λ w. sees (word w.now) ts) LEFT_OUT
+
+-- a word other than these comes next
+abbrev pub sees_other : List Mark → Tokens → Bool
+sees_other known ts = sees_any_word ts && not (begins known ts)
+
+abbrev pub created : List Mark
+created = TABLE ∷ FUNCTION ∷ PROCEDURE ∷ TRIGGER ∷ OR ∷ []
+
+abbrev pub dropped : List Mark
+dropped = FUNCTION ∷ PROCEDURE ∷ TRIGGER ∷ TABLE ∷ []
+
+-- the first word is one of those, or it is CREATE or DROP before a word that isn't known there
+abbrev pub is_left_out : Tokens → Bool
+is_left_out ts = begins_left_out ts || (sees CREATE ts && sees_other created (after CREATE ts)) || (sees DROP ts && sees_other dropped (after DROP ts))

@@ -1,0 +1,154 @@
+//! Commands that define nothing.
+
+ghost use Rattle.std.specs.Prelude.{[], ◌∷◌, ◌≡◌, length};
+ghost use Rattle.pl_grammar.specs.Parser.{Reads, links_from, many_from, take, begins};
+ghost use Rattle.pl_grammar.specs.Marks.{a_name};
+ghost use Rattle.pl_grammar.specs.Forms.{alone, by};
+ghost use Rattle.pl_grammar.specs.Words as w;
+ghost use Rattle.pl_expr_parse.specs.Grammar as x;
+ghost use Rattle.pl_expr_parse.specs.Finished.{reads_front};
+ghost use Rattle.pl_sql_parse.specs.Grammar as spec;
+ghost use Rattle.pl_sql_parse.specs.Edges.{reads_part, firsts};
+
+use crate::changes::{delete, insert, update};
+use crate::trees::call_of;
+use pl_base::Name;
+use pl_expr_parse::{read_arguments, read_query};
+use pl_grammar::{Fail, Tokens};
+use pl_lex::{Keyword, Sign as Mark};
+use pl_tree::Command;
+use std::alloc::Global;
+
+// [WORK | TRANSACTION]
+#[tactic(auto, using(crate::proofs::Step::gives))]
+pub(crate) fn work(tokens: &mut Tokens<'_>) -> Result<(), Fail>
+    ensures { Reads (reads_part spec.Work tokens.old) result tokens.new }
+{
+    if !tokens.eat_word("work") {
+        tokens.eat_word("transaction");
+    }
+    Ok(())
+}
+
+// [SAVEPOINT] name
+#[tactic(auto, using(crate::proofs::Step::gives, crate::proofs::Step::then_reads, crate::proofs::Step::else_reads))]
+pub(crate) fn savepoint_name(tokens: &mut Tokens<'_>) -> Result<Name, Fail>
+    ensures { Reads (reads_part spec.SavepointName tokens.old) result tokens.new }
+{
+    if tokens.sees_word_before_name("savepoint") {
+        tokens.expect_word("savepoint")?;
+        return tokens.name();
+    }
+    tokens.name()
+}
+
+// ROLLBACK, behind that word.
+#[tactic(auto, using(crate::proofs::Step::gives))]
+pub(crate) fn rollback(tokens: &mut Tokens<'_>) -> Result<Command, Fail>
+    ensures { Reads (reads_part spec.Rollback tokens.old) result tokens.new }
+{
+    work(tokens)?;
+    if tokens.eat(Keyword::To) {
+        return Ok(Command::RollbackTo(savepoint_name(tokens)?));
+    }
+    Ok(Command::Rollback)
+}
+
+// BEGIN, START TRANSACTION, COMMIT, END, ROLLBACK, ABORT, SAVEPOINT, RELEASE
+#[tactic(auto, using(crate::proofs::Step::gives))]
+pub(crate) fn transaction(tokens: &mut Tokens<'_>) -> Result<Command, Fail>
+    ensures { Reads (reads_part spec.Transaction tokens.old) result tokens.new }
+{
+    if tokens.eat(Keyword::Begin) {
+        work(tokens)?;
+        return Ok(Command::Begin);
+    }
+    if tokens.eat_word("start") {
+        tokens.expect_word("transaction")?;
+        return Ok(Command::StartTransaction);
+    }
+    if tokens.eat_word("commit") {
+        work(tokens)?;
+        return Ok(Command::Commit);
+    }
+    if tokens.eat(Keyword::End) {
+        work(tokens)?;
+        return Ok(Command::Commit);
+    }
+    if tokens.eat_word("rollback") {
+        return rollback(tokens);
+    }
+    if tokens.eat_word("abort") {
+        work(tokens)?;
+        return Ok(Command::Rollback);
+    }
+    if tokens.eat_word("savepoint") {
+        return Ok(Command::Savepoint(tokens.name()?));
+    }
+    tokens.expect_word("release")?;
+    Ok(Command::Release(savepoint_name(tokens)?))
+}
+
+// DO, behind that word.
+#[tactic(auto, using(crate::proofs::Step::gives))]
+pub(crate) fn do_body(alloc: Global, tokens: &mut Tokens<'_>) -> Result<Command, Fail>
+    ensures { Reads (reads_part spec.Do tokens.old) result tokens.new }
+{
+    if tokens.eat_word("language") {
+        let language = tokens.name()?;
+        let body = tokens.text(alloc)?;
+        return Ok(Command::Do {
+            language: Some(language),
+            body,
+        });
+    }
+    let body = tokens.text(alloc)?;
+    if tokens.eat_word("language") {
+        let language = tokens.name()?;
+        return Ok(Command::Do {
+            language: Some(language),
+            body,
+        });
+    }
+    Ok(Command::Do {
+        language: None,
+        body,
+    })
+}
+
+// CALL, behind that word.
+#[tactic(auto, using(crate::proofs::Step::gives))]
+pub(crate) fn call(alloc: Global, tokens: &mut Tokens<'_>) -> Result<Command, Fail>
+    ensures { Reads (reads_part spec.Call tokens.old) result tokens.new }
+{
+    let name = tokens.name()?;
+    tokens.expect_sign(Mark::Open)?;
+    let arguments = read_arguments(alloc, tokens)?;
+    call_of(name, arguments)
+}
+
+// A command that defines nothing.
+#[tactic(auto, using(crate::proofs::Step::gives))]
+pub(crate) fn command(alloc: Global, tokens: &mut Tokens<'_>) -> Result<Command, Fail>
+    ensures { Reads (reads_part spec.Command tokens.old) result tokens.new }
+{
+    if tokens.eat(Keyword::Insert) {
+        return insert(alloc, tokens);
+    }
+    if tokens.eat(Keyword::Update) {
+        return update(alloc, tokens);
+    }
+    if tokens.eat(Keyword::Delete) {
+        return delete(alloc, tokens);
+    }
+    if tokens.eat(Keyword::Do) {
+        return do_body(alloc, tokens);
+    }
+    if tokens.eat_word("call") {
+        return call(alloc, tokens);
+    }
+    if tokens.sees(Keyword::Select) {
+        return Ok(Command::Query(read_query(alloc, tokens)?));
+    }
+    transaction(tokens)
+}
