@@ -1,15 +1,13 @@
 -- What `read_words` answers.
-use Rattle.std.proofs.Common.{◌≡◌, ◌∙◌, ◌<◌, ◌-◌, take, ℕ, Bool, true, false, codes, if◌then◌else◌, refl, sym, ap, subst, arith, List, [], ◌∷◌, map, length, drop, Option, Some, None, Result, Ok, Err, IfOk, MatchResult, string_bytes, String, Global, ⊎_elim}
+use Rattle.std.proofs.Common.{◌≡◌, ◌∙◌, ◌-◌, take, Bool, true, false, codes, if◌then◌else◌, refl, sym, ap, subst, arith, List, [], ◌∷◌, map, length, drop, Some, None, Result, Ok, Err, IfOk, MatchResult, string_bytes, String, Global, ⊎_elim}
 use Rattle.std.proofs.lemmas.List.{take_all}
 use Rattle.clap.specs.Faults.{fault_of, is_simple_and_free}
-use Rattle.clap.specs.Kinds.{HasKind, IsAmong, Kinds}
-use Rattle.clap.specs.Simple.{HasMatchesOf, matches_of}
-use Rattle.clap.specs.Walk.{rows_of}
+use Rattle.clap.specs.Kinds.{HasKind, Kinds}
+use Rattle.clap.specs.Simple.{HasMatchesOf}
 use Rattle.clap.specs.Words.{App, found_of, kind_of, one_text}
 use Rattle.clap.specs.declared.error.Error.{Error}
 use Rattle.clap.specs.declared.error.kind.ErrorKind.TheVariants as kind
 use Rattle.clap.specs.declared.parser.matches.ArgMatches.{ArgMatches}
-use Rattle.clap.specs.declared.parser.matches.Found.{Found}
 use Rattle.pl_cli.specs.Command.{any_one_dash, plpg_app}
 use Rattle.pl_cli.specs.Line.{Word, asked}
 use Rattle.pl_cli.specs.Lines.{asked_in, matched_line}

@@ -1,12 +1,14 @@
 -- Each pair of a run of the program is covered.
-use Rattle.std.proofs.Common.{◌≡◌, ◌<◌, ◌⊎◌, arith, inl, inr, ⊎_elim, ℕ, List, [], ◌∷◌, ◌++◌, Result, Ok, Some, None, get_or, refl, sym, ◌∙◌, ap, subst}
+use Rattle.std.proofs.Common.{◌≡◌, ◌<◌, ◌≤◌, ◌⊎◌, Bool, arith, inl, inr, ⊎_elim, ℕ, List, [], ◌∷◌, ◌++◌, Result, Ok, Err, Option, Some, None, get_or, refl, sym, ◌∙◌, ap, subst}
 use Rattle.std.proofs.lemmas.List.{append-nil, append_cancel_left}
-use Rattle.std.proofs.Common.{append_assoc}
+use Rattle.std.proofs.Common.{append_assoc, ◌-◌, ◌^◌}
+use Rattle.std.proofs.Math.Nat.{eq-or-lt_of_le}
 use Rattle.pl_base.specs.Image.{Image}
-use Rattle.pl_disk.specs.Disk.{View, IsLawful, Runs, Only, Settled, renamed}
+use Rattle.pl_disk.specs.Disk.{View, IsLawful, Rises, Runs, Only, Settled, renamed}
 use Rattle.pl_disk.proofs.Moments.{each, no_run, unnamed}
 use Rattle.pl_keeper.specs.Store.{OpensSame}
-use Rattle.pl_meaning.specs.Meaning.{trace}
+use Rattle.pl_meaning.specs.Meaning.{Readings, trace}
+use Rattle.pl_model.specs.declared.reading.Reading.{Reading}
 use Rattle.pl_model.specs.Covered.{Tells}
 use Rattle.pl_model.specs.Database.{Database}
 use Rattle.pl_model.specs.Opening.{Damage, opens}
@@ -72,11 +74,15 @@ all_covers a b d lawful told first settled printed synced found db is_found is_d
     (subst (λ (e : Database). Runs b d (Tells b.printed (events e) e)) same second)
     printed synced.0 synced.1 synced.2
 
-pub all_last : (o : Result Database Damage) (v : View) (state : SessionState) (read script : List ℕ) (found db : Database) → o ≡ Ok found → o ≡ Ok db → read ≡ script → IsReady v state → database_in state ≡ last_commit (trace read found) found
-    → v.told → (c : Image) → v.may_leave c → opens c ≡ Ok (last_commit (trace script db) db)
-all_last o v state read script found db is_found is_db is_read ready is told c left =
+pub all_last : (o : Result Database Damage) (v : View) (state : SessionState) (stops : Bool) (readings : List Reading) (found db : Database) → o ≡ Ok found → o ≡ Ok db → IsReady v state → database_in state ≡ last_commit (trace stops readings found) found
+    → v.told → (c : Image) → v.may_leave c → opens c ≡ Ok (last_commit (trace stops readings db) db)
+all_last o v state stops readings found db is_found is_db ready is told c left =
     let same = same_database o found db is_found is_db in
-    ready.opens_to told c left ∙ ap (λ (d : Database). let r : Result Database Damage = Ok d in r) (is ∙ (λ i. last_commit (trace (is_read i) (same i)) (same i)))
+    ready.opens_to told c left ∙ ap (λ (d : Database). let r : Result Database Damage = Ok d in r) (is ∙ ap (λ (d : Database). last_commit (trace stops readings d) d) same)
+
+-- what holds of the database that was found holds of the one that the files open to
+pub as_found : (P : Database → Type 0) (o : Result Database Damage) (found db : Database) → o ≡ Ok found → o ≡ Ok db → P found → P db
+as_found P o found db is_found is_db holds = subst P (same_database o found db is_found is_db) holds
 
 -- where one line was said before the store was attached
 pub line_covers : (a d : View) (line : List ℕ) (db : Database) → IsLawful a → a.told → opens a.seen ≡ Ok db → d.synced ≡ a.synced
@@ -101,16 +107,34 @@ one_first P a b one two = ⊎_elim (λ below. absurd (two.1 a below one.0)) (λ 
     order : (m n : ℕ) → (m < n) ⊎ ((n < m) ⊎ (m ≡ n))
     order m n = grind arith
 
-pub refused_due : (script : List ℕ) (db : Database) (events : List Event) (at : ℕ) → IsRefusedAt script at → IsDueOf script db events → Said (refusal_line at) ∷ [] ≡ events
-refused_due script db events at refused (inl due) = ap (λ (k : ℕ). Said (refusal_line k) ∷ []) (one_first (Spoils script) at due.0 refused due.1) ∙ sym due.2
-refused_due script db events at refused (inr due) = absurd (due.0 at refused.0)
+pub refused_due : (script : List ℕ) (stops : Bool) (db : Database) (events : List Event) (at : ℕ) → IsRefusedAt script at → IsDueOf script stops db events → Said (refusal_line at) ∷ [] ≡ events
+refused_due script stops db events at refused (inl due) = ap (λ (k : ℕ). Said (refusal_line k) ∷ []) (one_first (Spoils script) at due.0 refused due.1) ∙ sym due.2
+refused_due script stops db events at refused (inr due) = absurd (due.0 at refused.0)
 
-pub script_due : (script : List ℕ) (db : Database) (events : List Event) → IsScript script → IsDueOf script db events → trace script db ≡ events
-script_due script db events is (inl due) = absurd (is due.0 due.1.0)
-script_due script db events is (inr due) = sym due.1
+-- the readings of a script that isn't refused
+pub record IsDueScript (script : List ℕ) (stops : Bool) (db : Database) (events : List Event) : Type 0 where
+  pub readings : List Reading
+  pub read : Readings script readings
+  pub is : trace stops readings db ≡ events
+
+pub script_due : (script : List ℕ) (stops : Bool) (db : Database) (events : List Event) → IsScript script → IsDueOf script stops db events → IsDueScript script stops db events
+script_due script stops db events is (inl due) = absurd (is due.0 due.1.0)
+script_due script stops db events is (inr due) = record { readings = due.1.0; read = due.1.1; is = sym due.1.2 }
 
 pub is_line : {X : Type 0} (words : List Word) (asks : Asked) → asked words ≡ Some asks → asked words ≡ None → X
 is_line words asks some none = absurd (never asks (sym some ∙ none))
   where
     never : (asks : Asked) → Some asks ≡ None → ⊥
     never asks is = cc
+
+-- words ask for one thing
+pub one_asked : (o : Option Asked) (a b : Asked) → o ≡ Some a → o ≡ Some b → a ≡ b
+one_asked o a b one two = cc
+
+-- a count that rose later rose since an earlier time
+pub rises_on : (a b d : ℕ) → a ≤ b → b ≤ d → Rises b d → Rises a d
+rises_on a b d h k rises below =
+    ⊎_elim (λ same. let low : b < 2 ^ 64 - 1 = omega (arith, same, below) in let rose = rises low in omega (arith, same, rose)) (λ less. omega (arith, less, k)) (eq-or-lt_of_le h)
+
+pub not_refused : {T E : Type 0} (x : T) (e : E) → (let r : Result T E = Ok x in r ≡ Err e) → ⊥
+not_refused x e same = cc

@@ -1,13 +1,12 @@
 -- Where bytes stop being a script.
-use Rattle.std.proofs.Common.{◌≡◌, ◌∙◌, ◌<◌, ◌≤◌, ◌+◌, ◌-◌, ◌&&◌, ◌⊎◌, inl, inr, ⊎_elim, ℕ, Bool, true, false, true≢false, refl, sym, ap, subst, arith, List, [], ◌∷◌, ◌++◌, length, take, drop, slice_index, Option, Some, None, MatchOption, Result, Ok, Err, String, Global, string_bytes, length-append, length-take, get_or-take, ◌==◌}
+use Rattle.std.proofs.Common.{◌≡◌, ◌∙◌, ◌<◌, ◌≤◌, ◌+◌, ◌-◌, ◌&&◌, ◌⊎◌, inl, inr, ⊎_elim, ℕ, Bool, true, false, true≢false, refl, sym, ap, subst, arith, List, [], ◌∷◌, ◌++◌, length, take, slice_index, length-append, length-take, get_or-take, ◌==◌}
 use Rattle.std.proofs.lemmas.Bool.Decides.{nat_tests}
 use Rattle.std.proofs.lemmas.List.{append-nil, take-append-le, take_all, get_or_append_left}
 use Rattle.std.proofs.lemmas.Str.{length-encode, len_utf8_bounds, IsUtf8-append, utf8_valid_len-IsValidUpTo}
 use Rattle.std.proofs.Math.Seq.{take-append_seam, take-append-add, take-take}
 use Rattle.std.proofs.Math.Utf8.{encode, encodes, scalar, scalars}
 use Rattle.std.specs.Str.{IsUtf8, IsValidUpTo}
-use Rattle.pl_cli.specs.Script.{IsFirst, IsFlaw, IsRefusedAt, IsScript, IsScriptRead, Spoils}
-use Rattle.pl_cli.specs.declared.reading.ReadFail.{ReadFail}
+use Rattle.pl_cli.specs.Script.{IsFirst, IsFlaw, IsRefusedAt, IsScript}
 
 -- characters have at most four bytes, so behind each byte of a text one of them ends soon
 boundary_after : (cs : List ℕ) (p : ℕ) → scalars cs ≡ true → p < length (encodes cs) → (b : ℕ) × ((p < b) × ((b ≤ p + 4) × IsUtf8 (take b (encodes cs))))

@@ -1,12 +1,12 @@
 -- What clap makes of the words, against what a line means.
-use Rattle.std.proofs.Common.{◌≡◌, ◌∙◌, ◌<◌, ◌≤◌, ◌+◌, ◌&&◌, ◌||◌, ◌==◌, ◌⊎◌, ℕ, Bool, cond, codes, true, false, not, zero, suc, refl, sym, ap, ap₂, subst, arith, List, [], ◌∷◌, ◌++◌, map, length, drop, Option, Some, None, inl, inr, ⊎_elim, is_some, true≢false, nat_eq, append_assoc, find, fold}
+use Rattle.std.proofs.Common.{◌≡◌, ◌∙◌, ◌≤◌, ◌+◌, ◌&&◌, ◌||◌, ◌⊎◌, ℕ, Bool, cond, codes, true, false, not, suc, refl, sym, ap, subst, arith, List, [], ◌∷◌, ◌++◌, length, drop, Option, Some, None, inl, inr, ⊎_elim, is_some, true≢false, nat_eq, append_assoc, find, fold}
 use Rattle.std.proofs.lemmas.Bool.Decides.{nat_tests}
 use Rattle.std.proofs.lemmas.List.{append-nil}
 use Rattle.std.specs.Prelude.{if◌then◌else◌, slice_get, option_map, option_and_then}
-use Rattle.std.specs.List.{list_all, list_any}
+use Rattle.std.specs.List.{list_any}
 use Rattle.std.specs.Str.{bytes_eq}
-use Rattle.clap.specs.Walk.{Held, Row, Rule, Text, Waiting, idle, option, Walk, settled, settled_rows, finished, first_of, one_of, row_text, has_row, walked, with_default, default_rows, reading_by, is_empty, rows_of, nothing_held, with_values, without, is_pending, pushed, Step, after_flag, after_step, arg_by_long, long_met, more_values, used, at_row}
-use Rattle.clap.specs.Simple.{App, Shape, built, matches_of, filled, with_index}
+use Rattle.clap.specs.Walk.{Held, Row, Rule, Text, Waiting, idle, option, Walk, settled, settled_rows, finished, first_of, one_of, row_text, has_row, walked, with_default, default_rows, reading_by, is_empty, rows_of, nothing_held, with_values, without, is_pending, pushed, Step, after_flag, after_step, arg_by_long, long_met, more_values, at_row}
+use Rattle.clap.specs.Simple.{Shape, built, matches_of, filled, with_index}
 use Rattle.clap.specs.Facts.{explicit_source}
 use Rattle.std.specs.Option.{option_map_or}
 use Rattle.clap.proofs.FaultLemmas.{leaf_fault, past}
@@ -16,13 +16,12 @@ use Rattle.clap.specs.declared.error.kind.ErrorKind.{ErrorKind}
 use Rattle.clap.specs.declared.error.kind.ErrorKind.TheVariants as kind
 use Rattle.clap.specs.declared.builder.value_parser.Reading.TheVariants as reading
 use Rattle.clap.specs.declared.parser.matches.ValueSource.TheVariants.{CommandLine, DefaultValue}
-use Rattle.clap.specs.declared.builder.action.ArgAction.TheVariants.{Set, SetTrue}
 use Rattle.pl_cli.specs.Command.{plpg_app, any_one_dash, has_one_dash, store_rule, script_rule, steps_rule, stop_rule}
 use Rattle.pl_cli.specs.Lines.{option_items, line_by, matched_line}
 use Rattle.clap.specs.Matches.{first_value, one_text}
 use Rattle.clap.specs.declared.parser.matches.Found.{Found}
 use Rattle.clap.proofs.WalkLemmas.{first_value-rows, one_text-rows}
-use Rattle.pl_cli.specs.Line.{Word, Given, Asked, asked, has_dash, option_name, option_value, given_option, asked_by, asked_of, given, names_alone, with_name, with_steps, with_stop, steps_of, steps_read, stops_of}
+use Rattle.pl_cli.specs.Line.{Word, Given, asked, has_dash, option_name, option_value, given_option, asked_by, asked_of, given, names_alone, with_name, with_steps, with_stop, steps_of, steps_read, stops_of}
 
 abbrev pub shape : Shape
 shape = (built plpg_app).top

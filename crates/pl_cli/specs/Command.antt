@@ -1,5 +1,5 @@
 -- How clap is told of the command line. What a valid line is doesn't rest on this: `Line.antt` says that.
-use Rattle.std.specs.Prelude.{ℕ, ◌&&◌, ◌||◌, ◌==◌, List, [], ◌∷◌, Bool, true, false, not, Some, codes, drop, length, if◌then◌else◌}
+use Rattle.std.specs.Prelude.{◌&&◌, List, [], ◌∷◌, Bool, true, false, not, Some, codes, drop, if◌then◌else◌}
 use Rattle.std.specs.Str.{bytes_eq}
 use Rattle.clap.specs.Words.{App, Rule, new_app, new_rule, with_rule}
 use Rattle.clap.specs.declared.builder.action.ArgAction.TheVariants.{Set, SetTrue}

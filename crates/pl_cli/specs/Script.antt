@@ -1,5 +1,5 @@
 -- The bytes that are a script, and where others are refused.
-use Rattle.std.specs.Prelude.{◌≡◌, ◌<◌, ◌+◌, ◌++◌, ◌⊎◌, ℕ, List, length, slice_index, Result, Ok, Err, Vec, String, string_bytes}
+use Rattle.std.specs.Prelude.{◌≡◌, ◌<◌, ◌++◌, ◌⊎◌, ℕ, List, length, slice_index, Result, Ok, Err, Vec, String, string_bytes}
 use Rattle.std.specs.Str.{IsValidUpTo}
 use Rattle.std.specs.declared.alloc.Global.{Global}
 use Rattle.pl_cli.specs.declared.reading.ReadFail.{ReadFail}

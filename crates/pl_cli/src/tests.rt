@@ -1,3 +1,4 @@
+mod pieces;
 mod refusals;
 mod words;
 
@@ -72,7 +73,7 @@ fn scripts_print_their_replies(rt: HostRuntime) -> Result<(), Fail> {
             b"",
             b"CREATE TABLE table (c integer);;",
             0,
-            b"ERROR:  0A000: feature_not_supported\n",
+            b"ERROR:  42601: syntax_error\n",
             18,
         ),
         (&STORE[..83], SCRIPT, 7, b"", 83),

@@ -1,14 +1,12 @@
 //! From a payload to its operation.
 
 ghost use Rattle.std.specs.Prelude.{◌≡◌, ◌==◌, length, not, IfOk};
-ghost use Rattle.std.specs.List.{list_all};
 ghost use Rattle.std.specs.Int.{from_be_bytes, w32, w64};
-ghost use Rattle.std.specs.Str.{is_utf8};
-ghost use Rattle.pl_model.specs.Spelling.{is_text, is_table_name, is_row_id, read_define, read_put, read_row, operation_of};
+ghost use Rattle.pl_model.specs.Spelling.{is_row_id, read_define, read_put, read_row, operation_of};
 
 use pl_base::{List, Name, Op, Txt, Value};
+use pl_model::{is_table_name, is_text};
 use std::alloc::{AllocError, Global};
-use std::str;
 
 /// The operation that a whole payload spells. None where it spells none.
 #[tactic(auto, unfolding(pl_model::specs::Spelling::operation_of))]
@@ -69,33 +67,6 @@ fn decode_row(alloc: Global, name: &[u8], tail: &[u8]) -> Result<Option<Op>, All
     let mut row = List::new(alloc);
     row.push(Value::Int(number_of_32_bits(&tail[10..]).cast_signed()))?;
     Ok(Some(Op::Put { table, id, row }))
-}
-
-fn is_text(bytes: &[u8]) -> bool
-    ensures { result ≡ is_text bytes.now }
-{
-    is_utf8(bytes) && has_no_zero(bytes)
-}
-
-fn has_no_zero(bytes: &[u8]) -> bool
-    ensures { result ≡ list_all (λ b. not (b == 0)) bytes.now }
-{
-    bytes.iter().all(|b| *b != 0)
-}
-
-fn is_utf8(bytes: &[u8]) -> bool
-    ensures { result ≡ is_utf8 bytes.now }
-{
-    match str::from_utf8(bytes) {
-        Ok(_) => true,
-        Err(_) => false,
-    }
-}
-
-fn is_table_name(name: &[u8]) -> bool
-    ensures { result ≡ is_table_name name.now }
-{
-    is_text(name) && !name.is_empty() && name.len() <= Name::MAX_LEN
 }
 
 fn is_row_id(id: u64) -> bool

@@ -1,30 +1,31 @@
 -- The lines that are printed.
-use Rattle.std.specs.Prelude.{List, ℕ, [], ◌∷◌, ◌++◌, codes}
-
--- a line ends with a newline
-abbrev pub line : List ℕ → List ℕ
-line text = text ++ 10 ∷ []
+use Rattle.std.specs.Prelude.{List, ℕ, ◌++◌, codes}
+use Rattle.pl_base.specs.declared.state.State.{State}
+use Rattle.pl_base.specs.declared.state.TheConstants.State.{FEATURE_NOT_SUPPORTED}
+use Rattle.pl_print.specs.Messages.{labelled, condition_name}
+use Rattle.pl_print.specs.Tags.{tag_bytes}
+use Rattle.pl_print.specs.declared.reply.Tag.TheVariants.{CreateTable, Insert}
 
 -- an error's line: its SQLSTATE and the name of its condition
-abbrev pub error_line : (state condition : List ℕ) → List ℕ
-error_line state condition = line (codes "ERROR:  " ++ state ++ codes ": " ++ condition)
+abbrev pub error_line : State → List ℕ
+error_line state = labelled (codes "ERROR") (state.code ++ (codes ": " ++ condition_name state.code))
 
 -- the tags
 abbrev pub created : List ℕ
-created = line (codes "CREATE TABLE")
+created = tag_bytes CreateTable
 
 abbrev pub inserted : List ℕ
-inserted = line (codes "INSERT 0 1")
+inserted = tag_bytes (Insert 1)
 
 -- the errors
 abbrev pub not_supported : List ℕ
-not_supported = error_line (codes "0A000") (codes "feature_not_supported")
+not_supported = error_line FEATURE_NOT_SUPPORTED
 
 abbrev pub duplicate_table : List ℕ
-duplicate_table = error_line (codes "42P07") (codes "duplicate_table")
+duplicate_table = error_line (record { code = codes "42P07" })
 
 abbrev pub undefined_table : List ℕ
-undefined_table = error_line (codes "42P01") (codes "undefined_table")
+undefined_table = error_line (record { code = codes "42P01" })
 
 abbrev pub limit_exceeded : List ℕ
-limit_exceeded = error_line (codes "54000") (codes "program_limit_exceeded")
+limit_exceeded = error_line (record { code = codes "54000" })

@@ -1,5 +1,5 @@
 -- How a trace goes on, and that its steps keep the two bounds.
-use Rattle.std.proofs.Common.{◌≡◌, ◌⊎◌, ◌≤◌, ◌-◌, ◌==◌, inl, inr, ⊎_elim, ℕ, zero, suc, ◌+◌, List, [], ◌∷◌, ◌++◌, length, Some, Ok, refl, sym, ◌∙◌, ap, subst, arith, append_assoc, length-append, nat_lt}
+use Rattle.std.proofs.Common.{◌≡◌, ◌-◌, inl, inr, ⊎_elim, ℕ, suc, ◌+◌, List, [], ◌∷◌, ◌++◌, length, Some, Ok, refl, sym, ◌∙◌, ap, subst, arith, append_assoc, length-append}
 use Rattle.std.specs.Prelude.{slice_get}
 use Rattle.std.proofs.lemmas.List.{append-nil}
 use Rattle.std.proofs.lemmas.Bool.Decides.{nat_tests}
@@ -7,7 +7,7 @@ use Rattle.pl_base.specs.Image.{Image}
 use Rattle.pl_model.specs.Database.{Database}
 use Rattle.pl_model.specs.Opening.{opens}
 use Rattle.pl_model.specs.Trace.{Event, Committed, Said, text, last_commit, commits}
-use Rattle.pl_model.specs.Covered.{IsPrefix, at_least, at_most, Covered, Along}
+use Rattle.pl_model.specs.Covered.{at_least, at_most, Covered, Along}
 
 -- before the first event
 pub start : (trace : List Event) (image : Image) (db : Database) → opens image ≡ Ok db → Along trace [] image db

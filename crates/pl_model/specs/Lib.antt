@@ -1,6 +1,8 @@
+pub mod Form
+pub mod Reading
+pub mod Definition
 pub mod Format
 pub mod Database
-pub mod Command
 pub mod Operation
 pub mod Spelling
 pub mod Opening

@@ -1,12 +1,11 @@
 -- The operations as the bytes of a payload. Numbers are big-endian. So far a payload holds one operation: a Define, or a Put of one
 -- integer.
-use Rattle.std.specs.Prelude.{◌≡◌, ◌==◌, ◌&&◌, ℕ, ℤ, ◌+◌, ◌^◌, List, [], ◌∷◌, ◌++◌, length, take, drop, Option, Some, None, is_some, not, Bool, true, false, nat_lt, nat_le, slice_index, if◌then◌else◌}
+use Rattle.std.specs.Prelude.{◌≡◌, ◌==◌, ◌&&◌, ℕ, ℤ, ◌+◌, ◌^◌, List, [], ◌∷◌, ◌++◌, length, take, drop, Option, Some, None, is_some, not, Bool, true, nat_lt, nat_le, slice_index, if◌then◌else◌}
 use Rattle.std.specs.Int.{to_be_bytes, from_be_bytes, w32, w64, cast_unsigned, cast_signed}
 use Rattle.std.specs.List.{list_all}
 use Rattle.std.specs.Str.{is_utf8}
 use Rattle.pl_base.specs.declared.operation.Op.{Op}
-use Rattle.pl_base.specs.declared.operation.Op.TheVariants.{Define, Put, Remove, Next}
-use Rattle.pl_base.specs.declared.value.Value.{Value}
+use Rattle.pl_base.specs.declared.operation.Op.TheVariants.{Define, Put}
 use Rattle.pl_base.specs.declared.value.Value.TheVariants as value
 
 -- UTF-8 without a zero byte

@@ -1,8 +1,6 @@
-pub mod Words
 pub mod Named
-pub mod Trimming
 pub mod Planned
-pub mod Cutting
 pub mod Folding
 pub mod Says
+pub mod Scripts
 pub mod Progress

@@ -1,5 +1,5 @@
 -- A table by its name, among the tables in memory and in the database that they stand for.
-use Rattle.std.proofs.Common.{◌≡◌, ◌≤◌, ◌<◌, ◌&&◌, ◌||◌, ℕ, zero, suc, ◌+◌, max, List, [], ◌∷◌, ◌++◌, length, set, map, get_or, cond, not, nat_eq, nat_lt, Bool, true, false, Option, Some, None, refl, sym, ◌∙◌, ap, arith}
+use Rattle.std.proofs.Common.{◌≡◌, ◌≤◌, ◌<◌, ◌&&◌, ◌||◌, ℕ, zero, suc, ◌+◌, max, List, [], ◌∷◌, ◌++◌, length, set, get_or, cond, not, nat_eq, nat_lt, Bool, true, false, Option, Some, None, refl, sym, ◌∙◌, ap, arith}
 use Rattle.std.specs.Prelude.{◌==◌, option_map, is_some, if◌then◌else◌}
 use Rattle.std.specs.BTreeMap.{insert_entry, is_at}
 use Rattle.std.specs.Map.{lookup}
@@ -7,11 +7,11 @@ use Rattle.std.specs.Ordering.{is_eq}
 use Rattle.std.specs.Ordering.{nat_cmp}
 use Rattle.std.proofs.lemmas.List.{map-append, map-set}
 use Rattle.std.proofs.Math.Seq.{map-set_same}
-use Rattle.std.specs.List.{position, position_or_len, prefix_len, list_any}
+use Rattle.std.specs.List.{position, position_or_len, prefix_len}
 use Rattle.std.specs.Cmp.Lexicographic.{pointwise}
 use Rattle.std.proofs.lemmas.Bool.Decides.{nat_tests}
 use Rattle.pl_base.specs.declared.value.Value.{Value}
-use Rattle.pl_model.specs.Database.{Database, Column, Object, TableObject, Table as TableValue, has, empty_table, define, fits, has_row, with_row, MOST_ROWS, put_in, put_object, put, next_of, next_in}
+use Rattle.pl_model.specs.Database.{Database, Column, Object, TableObject, Table as TableValue, has, empty_table, define, fits, has_row, with_row, MOST_ROWS, put_in, put_object, put, next_of}
 use Rattle.pl_session.specs.Tables.{integer_column, table_of, object_of, database_of, Becomes}
 use Rattle.pl_session.specs.declared.tables.Table.{Table}
 

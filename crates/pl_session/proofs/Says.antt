@@ -1,5 +1,5 @@
 -- A commit and a reply, along their events.
-use Rattle.std.proofs.Common.{◌≡◌, ◌⊎◌, inl, inr, ⊎_elim, ℕ, List, [], ◌∷◌, ◌++◌, Some, None, Ok, Err, Option, OnOk, Result, Bool, true, false, refl, sym, ◌∙◌, ap, subst, append_assoc}
+use Rattle.std.proofs.Common.{◌≡◌, inl, inr, ⊎_elim, ℕ, List, [], ◌∷◌, ◌++◌, Some, Ok, Err, OnOk, Result, refl, sym, ◌∙◌, ap, append_assoc}
 use Rattle.std.proofs.lemmas.List.{append-nil}
 use Rattle.pl_base.specs.Image.{Image}
 use Rattle.pl_base.specs.declared.operation.Op.{Op}
@@ -7,7 +7,7 @@ use Rattle.pl_disk.specs.Disk.{View, Runs, Says}
 use Rattle.pl_disk.specs.declared.device.Failed.{Failed}
 use Rattle.pl_disk.proofs.Moments.{runs_on, run_weaker, from_say, no_run}
 use Rattle.pl_keeper.specs.Store.{IsStore, Either}
-use Rattle.pl_model.specs.Covered.{Along, Tells}
+use Rattle.pl_model.specs.Covered.{Tells}
 use Rattle.pl_model.specs.Database.{Database}
 use Rattle.pl_model.specs.Opening.{opens}
 use Rattle.pl_model.specs.Operation.{apply}

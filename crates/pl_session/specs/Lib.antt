@@ -3,3 +3,4 @@ pub mod Tables
 pub mod Replies
 pub mod Plans
 pub mod State
+pub mod Scripts

@@ -1,16 +1,14 @@
--- What a plan says of a command's events.
-use Rattle.std.specs.Prelude.{◌≡◌, ℕ, ℤ, List, [], ◌∷◌, true}
-use Rattle.pl_base.specs.declared.operation.Op.TheVariants.{Define}
-use Rattle.pl_model.specs.Database.{Database, next_of}
+-- What a plan says of the events of a reading.
+use Rattle.std.specs.Prelude.{◌≡◌, List, [], ◌∷◌}
+use Rattle.pl_model.specs.Database.{Database}
 use Rattle.pl_model.specs.Operation.{apply}
-use Rattle.pl_model.specs.Spelling.{HasSpelling, is_table_name}
+use Rattle.pl_model.specs.Spelling.{HasSpelling}
 use Rattle.pl_model.specs.Trace.{Event, Said}
-use Rattle.pl_meaning.specs.Meaning.{events, commits_or, inserts}
-use Rattle.pl_meaning.specs.Replies.{created, duplicate_table}
+use Rattle.pl_model.specs.declared.reading.Reading.{Reading}
+use Rattle.pl_meaning.specs.Meaning.{events, commits_or}
 use Rattle.pl_session.specs.Replies.{line_of}
 use Rattle.pl_session.specs.declared.plan.Plan.{Plan}
 use Rattle.pl_session.specs.declared.plan.Plan.TheVariants.{Nothing, Says, Tries}
-use Rattle.pl_session.specs.declared.reply.Reply.TheVariants.{CreateTable, DuplicateTable}
 
 -- the plan gives these events
 abbrev pub Gives : List Event → Database → Plan → Type 0
@@ -24,12 +22,8 @@ CanStore Nothing = Unit {0}
 CanStore (Says reply) = Unit {0}
 CanStore (Tries op reply error) = HasSpelling op
 
-abbrev pub IsPlan : List ℕ → Database → Plan → Type 0
-IsPlan piece db plan = Gives (events piece db) db plan × CanStore plan
+abbrev pub Plans : List Event → Database → Plan → Type 0
+Plans trace db plan = Gives trace db plan × CanStore plan
 
--- the plan of a definition, and the one of a row
-abbrev pub PlansCreate : List ℕ → Plan → Type 0
-PlansCreate text plan = plan ≡ Tries (Define text) CreateTable DuplicateTable
-
-abbrev pub PlansInsert : List ℕ → ℤ → Database → Plan → Type 0
-PlansInsert table number db plan = Gives (inserts table number (next_of table db) db) db plan × (is_table_name table ≡ true → CanStore plan)
+abbrev pub IsPlan : Reading → Database → Plan → Type 0
+IsPlan reading db plan = Plans (events reading db) db plan

@@ -1,5 +1,5 @@
 -- A session between two commands, and what opening a store answers.
-use Rattle.std.specs.Prelude.{◌≡◌, ◌⊎◌, ℕ, List, [], Option, None, Result, Ok, Err, Bool, true}
+use Rattle.std.specs.Prelude.{◌≡◌, ◌⊎◌, ℕ, List, [], None, Result, Ok, Err, Bool, true, false}
 use Rattle.pl_base.specs.Image.{Image}
 use Rattle.pl_base.specs.declared.area.Area.TheVariants.{A}
 use Rattle.pl_disk.specs.Disk.{View}
@@ -11,6 +11,8 @@ use Rattle.pl_model.specs.Opening.{Damage, opens}
 use Rattle.pl_session.specs.Tables.{database_of}
 use Rattle.pl_session.specs.declared.halt.StartFail.{StartFail}
 use Rattle.pl_session.specs.declared.halt.StartFail.TheVariants.{Disk, Damaged, Memory}
+use Rattle.pl_session.specs.declared.halt.Ended.{Ended}
+use Rattle.pl_session.specs.declared.halt.Ended.TheVariants.{Whole, AtError}
 use Rattle.pl_session.specs.declared.halt.Outcome.{Outcome}
 use Rattle.pl_session.specs.declared.halt.Outcome.TheVariants.{Fine, Errored}
 use Rattle.pl_session.specs.declared.state.SessionState.{SessionState}
@@ -44,7 +46,12 @@ IsFolded batches (Err (Damaged area at)) = (area ≡ A) × (apply_batches batche
 IsFolded batches (Err Disk) = ⊥
 IsFolded batches (Err Memory) = Unit {0}
 
--- a command ended so
+-- a command ended so, by whether it failed
 abbrev pub outcome_of : Bool → Outcome
 outcome_of true = Errored
-outcome_of fine = Fine
+outcome_of false = Fine
+
+-- a script ended so, by whether it stopped at an error
+abbrev pub ended_of : Bool → Ended
+ended_of true = AtError
+ended_of false = Whole

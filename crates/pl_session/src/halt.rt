@@ -88,4 +88,6 @@ pub enum Outcome {
 pub enum Ended {
     /// All its commands were answered.
     Whole,
+    /// The last command that was answered got an error, and the script stops there.
+    AtError,
 }

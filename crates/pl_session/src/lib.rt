@@ -1,12 +1,10 @@
 //! Commands over a store: each is read, done in memory, committed, and then answered.
 #![tactic(auto)]
 
-mod blanks;
 mod halt;
-mod pieces;
 mod plan;
-mod reading;
 mod reply;
+mod script;
 mod state;
 mod tables;
 

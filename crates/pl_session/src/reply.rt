@@ -1,37 +1,48 @@
 //! The lines that commands are answered with.
 
-ghost use Rattle.std.specs.Prelude.{◌≡◌};
+ghost use Rattle.std.specs.Prelude.{◌≡◌, IfOk};
 ghost use Rattle.pl_session.specs.Replies.{line_of};
 
+use pl_base::{Bytes, Fail, Memory, Message, Name, Origin, Place, State};
+use pl_print::{Tag, fail, tag};
+use std::alloc::Global;
+
 /// The answer to a command.
-#[derive(Clone, Copy, Debug, PartialEq, Eq)]
+#[derive(Clone, Copy)]
 pub enum Reply {
-    /// A table was made.
-    CreateTable,
-    /// A row was inserted.
-    Insert,
-    /// 0A000: the command isn't one that runs.
-    NotSupported,
-    /// 42P07: there is a table of this name already.
-    DuplicateTable,
-    /// 42P01: there is no table of this name.
-    UndefinedTable,
-    /// 54000: the table has its most rows, or no row id is left.
-    LimitExceeded,
+    /// It is done.
+    Done(Tag),
+    /// It fails with this state.
+    Fails(State),
 }
 
 impl Reply {
     /// The line with its newline.
-    pub fn line(self) -> &'static [u8]
-        ensures { result.now ≡ line_of self }
+    pub fn line(self, alloc: Global) -> Result<Bytes, Memory>
+        ensures { IfOk result (λ line. line ≡ line_of self) }
     {
         match self {
-            Reply::CreateTable => b"CREATE TABLE\n",
-            Reply::Insert => b"INSERT 0 1\n",
-            Reply::NotSupported => b"ERROR:  0A000: feature_not_supported\n",
-            Reply::DuplicateTable => b"ERROR:  42P07: duplicate_table\n",
-            Reply::UndefinedTable => b"ERROR:  42P01: undefined_table\n",
-            Reply::LimitExceeded => b"ERROR:  54000: program_limit_exceeded\n",
+            Reply::Done(done) => tag(alloc, &done),
+            Reply::Fails(state) => error_line(alloc, state),
         }
     }
+}
+
+// The error with the name of its condition.
+fn error_line(alloc: Global, state: State) -> Result<Bytes, Memory>
+    ensures { IfOk result (λ line. line ≡ line_of (Reply.Fails state)) }
+{
+    let failed = Fail {
+        state,
+        message: Message::Standard,
+        detail: None,
+        hint: None,
+        origin: Origin::Engine,
+        place: Place {
+            routine: Name::NONE,
+            line: 1,
+            ordinal: 0,
+        },
+    };
+    fail(alloc, &failed)
 }

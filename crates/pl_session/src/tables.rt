@@ -9,10 +9,8 @@ ghost use Rattle.pl_base.specs.declared.operation.Op.TheVariants.{Define, Put};
 ghost use Rattle.pl_model.specs.Operation.{apply};
 ghost use Rattle.pl_session.specs.Tables.{integer_column, table_of, database_of, Becomes};
 
-use crate::blanks::trimmed;
-use crate::reading::read_command;
 use pl_base::{Cells, Memory, Name, Op, Value};
-use pl_model::Command;
+use pl_model::read_definition;
 use std::alloc::Global;
 use std::collections::BTreeMap;
 
@@ -120,16 +118,10 @@ impl Tables {
     fn define_by(&mut self, text: &[u8]) -> Result<bool, Memory>
         ensures { IfOk result (λ done. Becomes done (database_of self.old.list.items) (database_of self.new.list.items) (apply (Define text.now) (database_of self.old.list.items))) }
     {
-        if trimmed(text) != text {
-            return Ok(false);
-        }
-        let Some(command) = read_command(self.alloc, text)? else {
+        let Some(made) = read_definition(self.alloc, text)? else {
             return Ok(false);
         };
-        match command {
-            Command::CreateTable { table, column } => self.define(table, column),
-            Command::InsertInto { .. } => Ok(false),
-        }
+        self.define(made.table, made.column)
     }
 
     // Whether a row was put, under an id that is one.

@@ -1,8 +1,8 @@
-use Rattle.std.proofs.Common.{rules, ◌≡◌, ◌∙◌, ap, ap₂, IfOk, true}
+use Rattle.std.proofs.Common.{rules, ◌≡◌, ◌∙◌, ap, ap₂, true}
 use Rattle.std.proofs.lemmas.Result.{IfOk-weaker}
 use Rattle.clap.specs.Simple.{app_of_fields}
-use Rattle.clap.specs.Words.{AddsArg, App, app_of, rule_of, with_rule}
-use Rattle.pl_cli.specs.Command.{bare_app, plpg_app, store_rule, script_rule, steps_rule, stop_rule}
+use Rattle.clap.specs.Words.{App, app_of, rule_of, with_rule}
+use Rattle.pl_cli.specs.Command.{bare_app, store_rule, script_rule, steps_rule, stop_rule}
 use Rattle.pl_cli.proofs.line.command.Goals as goal
 
 abbrev no_help : App → App

@@ -1,4 +1,4 @@
-use Rattle.std.proofs.Common.{rules, ◌≡◌, ◌∙◌, ap, sym, map, string_bytes, List, String, Global, drop, true, false}
+use Rattle.std.proofs.Common.{rules, ◌≡◌, ◌∙◌, ap, sym, map, string_bytes, List, String, Global, drop, false}
 use Rattle.pl_cli.specs.Command.{any_one_dash}
 use Rattle.pl_cli.proofs.Answered.{at_err, no_words, one_dash, refused, rest_is, same_fail, taken, when_ok}
 use Rattle.pl_cli.proofs.line.read_words.Goals as goal

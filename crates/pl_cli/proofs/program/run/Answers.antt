@@ -1,9 +1,12 @@
-use Rattle.std.proofs.Common.{◌≡◌, sym, subst, refl, ⊎_elim, List, ℕ, [], ◌∷◌, map, string_bytes, None}
-use Rattle.pl_model.specs.Trace.{Event}
+use Rattle.std.proofs.Common.{◌≡◌, ◌&&◌, ◌++◌, Ok, true, false, sym, subst, refl, ⊎_elim, List, map, string_bytes, None}
+use Rattle.pl_meaning.specs.Meaning.{trace, has_error}
+use Rattle.pl_model.specs.Opening.{opens}
+use Rattle.pl_model.specs.Trace.{Event, text, last_commit}
 use Rattle.pl_cli.specs.Covers.{CoveredRun}
-use Rattle.pl_cli.specs.Line.{asked}
-use Rattle.pl_cli.specs.Printed.{usage_line}
-use Rattle.pl_cli.proofs.Covering.{idle_covers, is_line, line_covers}
+use Rattle.pl_cli.specs.Line.{Asked, asked}
+use Rattle.pl_cli.specs.Lines.{asked_in}
+use Rattle.pl_cli.specs.Printed.{IsDueOf, usage_line}
+use Rattle.pl_cli.proofs.Covering.{idle_covers, is_line, line_covers, one_asked}
 use Rattle.pl_cli.proofs.program.run.Goals as goal
 
 pub returns-in-Err-Memory-clause-covered : goal.returns-in-Err-Memory-clause-covered
@@ -20,4 +23,30 @@ returns-in-Err-Usage-clause-covered g c told script db events left is due =
 
 pub returns-in-Ok-clause-covered : goal.returns-in-Ok-clause-covered
 returns-in-Ok-clause-covered g c told script db events left is due =
-    ⊎_elim (λ none. is_line (map string_bytes c.args.words.now) _ c.in-Ok.ensures.line none.0) (λ here. c.run_line.ensures.covered told script db events left is here.2) due
+    ⊎_elim (λ none. is_line (map string_bytes c.args.words.now) _ c.in-Ok.ensures.line none.0)
+    (λ here.
+    let same : here.0 ≡ asked_in c.in-Ok.line = one_asked (asked (map string_bytes c.args.words.now)) here.0 (asked_in c.in-Ok.line) here.1 c.in-Ok.ensures.line in
+    c.run_line.ensures.covered told script db events left is (subst (λ (l : Asked). IsDueOf script l.stops_on_error db events) same here.2))
+    due
+
+pub returns-in-Ok-clause-whole : goal.returns-in-Ok-clause-whole
+returns-in-Ok-clause-whole g c told ended line script db readings is_line left is read =
+    let a = g.H.Disk.view c.args.host.now in
+    let d = g.H.Disk.view c.run_line.new.host in
+    let same : asked_in c.in-Ok.line ≡ line = one_asked (asked (map string_bytes c.args.words.now)) (asked_in c.in-Ok.line) line c.in-Ok.ensures.line is_line in
+    subst (λ (l : Asked). d.printed ≡ a.printed ++ text (trace l.stops_on_error readings db)) same (c.run_line.ensures.whole told ended script db readings left is read)
+
+pub returns-in-Ok-clause-last : goal.returns-in-Ok-clause-last
+returns-in-Ok-clause-last g c told ended line script db readings is_line left is read i may =
+    let same : asked_in c.in-Ok.line ≡ line = one_asked (asked (map string_bytes c.args.words.now)) (asked_in c.in-Ok.line) line c.in-Ok.ensures.line is_line in
+    subst (λ (l : Asked). opens i ≡ Ok (last_commit (trace l.stops_on_error readings db) db)) same (c.run_line.ensures.last told ended script db readings left is read i may)
+
+pub returns-in-Ok-clause-at_error : goal.returns-in-Ok-clause-at_error
+returns-in-Ok-clause-at_error g c told ended line script db readings is_line left is read =
+    let same : asked_in c.in-Ok.line ≡ line = one_asked (asked (map string_bytes c.args.words.now)) (asked_in c.in-Ok.line) line c.in-Ok.ensures.line is_line in
+    subst (λ (l : Asked). (l.stops_on_error && has_error readings db) ≡ true) same (c.run_line.ensures.at_error told ended script db readings left is read)
+
+pub returns-in-Ok-clause-no_error : goal.returns-in-Ok-clause-no_error
+returns-in-Ok-clause-no_error g c told ended line script db readings is_line left is read =
+    let same : asked_in c.in-Ok.line ≡ line = one_asked (asked (map string_bytes c.args.words.now)) (asked_in c.in-Ok.line) line c.in-Ok.ensures.line is_line in
+    subst (λ (l : Asked). (l.stops_on_error && has_error readings db) ≡ false) same (c.run_line.ensures.no_error told ended script db readings left is read)

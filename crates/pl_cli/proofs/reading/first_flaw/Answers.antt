@@ -1,4 +1,4 @@
-use Rattle.std.proofs.Common.{rules, ◌≡◌, ◌<◌, ◌≤◌, ℕ, length, take, arith, length-take, min, slice_index}
+use Rattle.std.proofs.Common.{◌≡◌, ◌<◌, length, arith, length-take}
 use Rattle.pl_cli.proofs.Flaws.{first_end, first_zero, from_front, in_front, no_flaw}
 use Rattle.pl_cli.proofs.reading.first_flaw.Goals as goal
 

@@ -1,4 +1,4 @@
-use Rattle.std.proofs.Common.{◌≡◌, ◌∙◌, ap, sym, subst, ℕ, List, ◌<◌, ◌⊎◌, length, arith}
+use Rattle.std.proofs.Common.{◌∙◌, ap, sym, subst, ℕ, List, length, arith}
 use Rattle.pl_cli.specs.Script.{IsFirst, IsFlaw}
 use Rattle.pl_cli.proofs.Flaws.{past_limit, refused_early, refused_long}
 use Rattle.pl_cli.proofs.reading.read_script.Goals as goal

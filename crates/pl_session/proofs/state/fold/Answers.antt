@@ -1,5 +1,4 @@
-use Rattle.std.proofs.Common.{◌≡◌, ◌∙◌, ◌++◌, ◌∷◌, [], List, length, Ok, Bool, true, false, refl, sym, ap, subst, arith, rules, vec_len}
-use Rattle.pl_keeper.specs.Batches.{apply_batches}
+use Rattle.std.proofs.Common.{◌≡◌, ◌∙◌, ◌++◌, length, Ok, Bool, refl, sym, ap, subst, arith, rules, vec_len}
 use Rattle.pl_model.specs.Operation.{apply}
 use Rattle.pl_session.specs.Tables.{database_of, Becomes}
 use Rattle.pl_session.proofs.Folding.{one_more, stops, all, moved}

@@ -1,14 +1,14 @@
-use Rattle.std.proofs.Common.{◌≤◌, length}
+use Rattle.std.proofs.Common.{◌≤◌, ◌-◌, length}
 use Rattle.pl_session.specs.State.{database_in, IsReady}
 use Rattle.pl_session.proofs.Progress.{Progress}
 use Rattle.pl_session.proofs.state.SessionState.run_pieces.Given as goal
 
 abbrev pub invariant-pieces : goal.invariant-pieces
 invariant-pieces g l = record {
-  short : length l.rest ≤ length l.fn.script;
+  within : l.at ≤ length l.fn.script;
   ready : IsReady (g.H.Disk.view l.host) l.self;
-  progress : Progress (g.H.Disk.view l.fn.host) (g.H.Disk.view l.host) l.fn.script l.rest (database_in l.fn.self) (database_in l.self);
+  progress : Progress (g.H.Disk.view l.fn.host) (g.H.Disk.view l.host) l.fn.stops l.fn.script l.at (database_in l.fn.self) (database_in l.self);
 }
 
 abbrev pub decreases-pieces : goal.decreases-pieces
-decreases-pieces g l = length l.rest
+decreases-pieces g l = length l.fn.script - l.at
