@@ -42,9 +42,10 @@ fn script_command(alloc: Global, script: &str, from: usize) -> Result<Command, R
     }
 }
 
+// Written from a copy, which so is tried too.
 fn prefix_of_command(alloc: Global, command: &Command) -> Result<Words, AllocError> {
     let mut out = Words::new(alloc);
-    print_command(&mut out, command)?;
+    print_command(&mut out, &command.copy(alloc)?)?;
     Ok(out)
 }
 

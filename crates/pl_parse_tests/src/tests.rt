@@ -46,9 +46,10 @@ fn query_of(alloc: Global, text: &str) -> Result<Query, Refusal> {
     }
 }
 
+// Written from a copy, which so is tried too.
 fn prefix_of_expr(alloc: Global, expr: &Expr) -> Result<Words, AllocError> {
     let mut out = Words::new(alloc);
-    print_expr(&mut out, expr)?;
+    print_expr(&mut out, &expr.copy(alloc)?)?;
     Ok(out)
 }
 
@@ -58,9 +59,10 @@ fn bracketed_expr(alloc: Global, expr: &Expr) -> Result<Words, AllocError> {
     Ok(out)
 }
 
+// Written from a copy, which so is tried too.
 fn prefix_of_query(alloc: Global, query: &Query) -> Result<Words, AllocError> {
     let mut out = Words::new(alloc);
-    print_query(&mut out, query)?;
+    print_query(&mut out, &query.copy(alloc)?)?;
     Ok(out)
 }
 
