@@ -9,3 +9,4 @@ pub mod Calls
 pub mod OneCommand
 pub mod Results
 pub mod Procedures
+pub mod LeftOut

@@ -10,7 +10,7 @@ ghost use Rattle.pl_sql_parse.specs.Words as w;
 use pl_grammar::Tokens;
 use pl_lex::{Keyword, Token};
 
-/// The words that begin a command that is left out, in lower case, beside the reserved ones.
+// The words that begin a command that is left out, in lower case, beside the reserved ones.
 const LEFT_OUT: [&str; 31] = [
     "alter",
     "analyze",
@@ -63,7 +63,7 @@ fn sees_one_of(tokens: &Tokens<'_>, words: &[&str]) -> bool
     words.iter().any(|other| tokens.sees_word(other))
 }
 
-#[tactic(auto, unfolding(crate::specs::LeftOut::begins_left_out))]
+#[tactic(auto, using(crate::proofs::LeftOut::same_words), unfolding(crate::specs::LeftOut::begins_left_out))]
 fn begins_left_out(tokens: &Tokens<'_>) -> bool
     ensures { result ≡ spec.begins_left_out tokens.now }
 {
