@@ -9,7 +9,7 @@ use Rattle.std.proofs.Math.Seq.{take-append_seam, drop-append_seam}
 use Rattle.pl_base.specs.declared.operation.Op.{Op}
 use Rattle.pl_base.specs.declared.operation.Op.TheVariants.{Define, Put}
 use Rattle.pl_base.specs.declared.value.Value.TheVariants as value
-use Rattle.pl_model.specs.Spelling.{is_text, is_define_text, is_table_name, is_row_id, define_bytes, put_bytes, read_row, operation_of}
+use Rattle.pl_codec.specs.Spelling.{is_text, is_define_text, is_table_name, is_row_id, define_bytes, put_bytes, read_row, operation_of}
 
 -- bytes that are put behind one another
 pub joined : (v0 v1 v2 v3 v4 v5 v6 name seen id number : List ℕ) (size : ℕ) → v0 ≡ [] → v1 ≡ v0 ++ 2 ∷ [] → v2 ≡ v1 ++ size ∷ [] → v3 ≡ v2 ++ name → v4 ≡ v3 ++ id → v5 ≡ v4 ++ (1 ∷ 1 ∷ []) → v6 ≡ v5 ++ number

@@ -1,15 +1,15 @@
 //! From a payload to its operation.
 
-ghost use Rattle.std.specs.Prelude.{◌≡◌, ◌==◌, length, not, IfOk};
+ghost use Rattle.std.specs.Prelude.{◌≡◌, length, IfOk};
 ghost use Rattle.std.specs.Int.{from_be_bytes, w32, w64};
-ghost use Rattle.pl_model.specs.Spelling.{is_row_id, read_define, read_put, read_row, operation_of};
+ghost use Rattle.pl_codec.specs.Spelling.{is_row_id, read_define, read_put, read_row, operation_of};
 
+use crate::storable::{is_table_name, is_text};
 use pl_base::{List, Name, Op, Txt, Value};
-use pl_model::{is_table_name, is_text};
 use std::alloc::{AllocError, Global};
 
 /// The operation that a whole payload spells. None where it spells none.
-#[tactic(auto, unfolding(pl_model::specs::Spelling::operation_of))]
+#[tactic(auto, unfolding(crate::specs::Spelling::operation_of))]
 pub fn decode(alloc: Global, payload: &[u8]) -> Result<Option<Op>, AllocError>
     ensures { IfOk result (λ op. op ≡ operation_of payload.now) }
 {

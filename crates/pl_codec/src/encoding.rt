@@ -3,7 +3,7 @@
 ghost use Rattle.std.specs.Prelude.{◌≡◌, ◌∷◌, [], IfOk, Some, true};
 ghost use Rattle.pl_base.specs.declared.value.Value.TheVariants.{Int};
 ghost use Rattle.pl_base.specs.declared.operation.Op.TheVariants.{Define, Put};
-ghost use Rattle.pl_model.specs.Spelling.{HasSpelling, is_define_text, is_table_name, is_row_id, define_bytes, put_bytes, payload_of, operation_of};
+ghost use Rattle.pl_codec.specs.Spelling.{HasSpelling, is_define_text, is_table_name, is_row_id, define_bytes, put_bytes, payload_of, operation_of};
 
 use pl_base::{Bytes, List, Name, Op, Value};
 use std::alloc::{AllocError, Global};
@@ -40,7 +40,8 @@ fn encode_put(alloc: Global, table: &Name, id: u64, number: i32) -> Result<Bytes
     requires named { is_table_name table.now ≡ true }
     requires numbered { is_row_id id ≡ true }
     ensures spelled { IfOk result (λ payload. payload ≡ put_bytes table.now id number) }
-    ensures read_back { IfOk result (λ payload. operation_of payload ≡ Some (Put table.now id (Int number ∷ []))) }
+    ensures read_back { IfOk result (λ payload.
+        operation_of payload ≡ Some (Put table.now id (Int number ∷ []))) }
 {
     let name = table.as_bytes();
     let mut bytes = Vec::new(alloc);

@@ -5,7 +5,7 @@ use Rattle.std.proofs.lemmas.List.{append-nil, ext_get_or}
 use Rattle.pl_base.specs.Image.{Image, file}
 use Rattle.pl_base.specs.declared.area.Area.{Area}
 use Rattle.pl_base.specs.declared.area.Area.TheVariants.{A, B}
-use Rattle.pl_disk.specs.Disk.{Elapses, Calls, Says, Rises, After, TornAt, Torn}
+use Rattle.pl_disk.specs.Disk.{Elapses, Calls, Continues, Says, Rises, After, TornAt, Torn, IsPrefix}
 use Rattle.pl_disk.specs.Lawful.{reads}
 use Rattle.pl_disk.specs.Left.{IsLeft}
 use Rattle.pl_disk.specs.Replay.{State, put, put_in, with_file, changed, written, replay, IsImage, Now, During, Since, start, IsKept, view_of, sync_at, syncs}
@@ -44,18 +44,20 @@ not_ok : {T : Type 0} (P : Type 0) (result : Result T Failed) → IsErr result �
 not_ok P (Ok x) err = absurd (cc err)
 not_ok P (Err e) err = tt
 
+-- what no call changes, where the counts don't fall
+kept_on : (names : List (List ℕ) → Type 0) (first files : Image) (printed : List ℕ) (notes : List Note) (files' : Image) (printed' : List ℕ) (later : List Note) (df sf df' sf' : ℕ) → df ≤ df' → sf ≤ sf'
+    → Continues (view_of names first files printed notes df sf) (view_of names first files' printed' later df' sf')
+kept_on names first files printed notes files' printed' later df sf df' sf' disk say = record { attached = λ l is. is; told = λ t. t; told_before = λ t. t; disk_faults = disk; say_faults = say }
+
 module _ (first files : Image) (printed : List ℕ) (notes : List Note) where
   abbrev state : State
   state = replay (start first) notes
 
   -- a call that failed, and one that only looked
-  pub missed : {T : Type 0} (df sf df' sf' : ℕ) (result : Result T Failed) → df ≤ df' → sf ≡ sf' → (IsErr result → Rises df df')
-      → Calls (view_of first files printed notes df sf) (view_of first files printed notes df' sf') result
-  missed df sf df' sf' result le same cause = record {
-    named = λ name is. is;
-    told = λ t. t;
-    told_before = λ t. t;
-    disk_faults = le;
+  pub missed : {T : Type 0} (names : List (List ℕ) → Type 0) (df sf df' sf' : ℕ) (result : Result T Failed) → df ≤ df' → sf ≡ sf' → (IsErr result → Rises df df')
+      → Calls (view_of names first files printed notes df sf) (view_of names first files printed notes df' sf') result
+  missed names df sf df' sf' result le same cause = record {
+    continues = kept_on names first files printed notes files printed notes df sf df' sf' le (omega (arith, same));
     say_faults = same;
     cause = cause;
     printed = λ t. refl;
@@ -63,14 +65,11 @@ module _ (first files : Image) (printed : List ℕ) (notes : List Note) where
     time = λ t. record { later = omega arith; nothing_else = λ t p c le since. inl since; keeps = λ t p c le since. since };
   }
 
-  pub said_nothing : {T : Type 0} (text : List ℕ) (df sf df' sf' : ℕ) (result : Result T Failed) → IsErr result → df ≡ df' → sf ≤ sf' → sf' ≡ raised sf
-      → Says text (view_of first files printed notes df sf) (view_of first files printed notes df' sf') result
-  said_nothing text df sf df' sf' result err same le more = record {
-    named = λ name is. is;
-    told = λ t. t;
-    told_before = λ t. t;
+  pub said_nothing : {T : Type 0} (names : List (List ℕ) → Type 0) (text : List ℕ) (df sf df' sf' : ℕ) (result : Result T Failed) → IsErr result → df ≡ df' → sf ≤ sf' → sf' ≡ raised sf
+      → Says text (view_of names first files printed notes df sf) (view_of names first files printed notes df' sf') result
+  said_nothing names text df sf df' sf' result err same le more = record {
+    continues = kept_on names first files printed notes files printed notes df sf df' sf' (omega (arith, same)) le;
     disk_faults = same;
-    say_faults = le;
     cause = λ e. (λ below. omega (arith, more, below));
     whole = λ t. not_ok _ result err;
     front = λ t. ([], (text, refl), sym (append-nil printed));
@@ -98,29 +97,26 @@ module _ (first files : Image) (printed : List ℕ) (notes : List Note) where
     pub synced_now : syncs 0 later ≡ syncs 0 notes ++ sync_at (0 + length notes + 1) note.change
     synced_now = ap (λ (l : List Note). syncs 0 l) is ∙ syncs-push 0 notes note
 
-    pub elapses : (files' : Image) (printed' : List ℕ) (df sf df' sf' : ℕ) (P : List ℕ → Image → Type 0)
+    pub elapses : (names : List (List ℕ) → Type 0) (files' : Image) (printed' : List ℕ) (df sf df' sf' : ℕ) (P : List ℕ → Image → Type 0)
         → ((p : List ℕ) (c : Image) → During state note.change p c → P p c) → ((p : List ℕ) (c : Image) → Now (changed state note.change) p c → P p c)
-        → Elapses (view_of first files printed notes df sf) (view_of first files' printed' later df' sf') P
-    elapses files' printed' df sf df' sf' P within now = subst (λ (l : List Note). Elapses (view_of first files printed notes df sf) (view_of first files' printed' l df' sf') P) (sym is) (record {
+        → Elapses (view_of names first files printed notes df sf) (view_of names first files' printed' later df' sf') P
+    elapses names files' printed' df sf df' sf' P within now = subst (λ (l : List Note). Elapses (view_of names first files printed notes df sf) (view_of names first files' printed' l df' sf') P) (sym is) (record {
       later = omega (arith, length-append notes (note ∷ []));
       nothing_else = λ t p c le since. ⊎_elim inl (λ new. inr (⊎_elim (within p c) (now p c) new)) (pushed (start first) notes note t p c le since);
       keeps = λ t p c le since. kept_too (start first) notes note t p c le since;
     })
 
     -- a call of the disk that noted something
-    pub done : {T : Type 0} (files' : Image) (df sf df' sf' : ℕ) (result : Result T Failed) → df ≡ df' → sf ≡ sf' → (IsErr result → ⊥)
+    pub done : {T : Type 0} (names : List (List ℕ) → Type 0) (files' : Image) (df sf df' sf' : ℕ) (result : Result T Failed) → df ≤ df' → sf ≡ sf' → (IsErr result → Rises df df')
         → ((p : List ℕ) (c : Image) → During state note.change p c → ⊥) → (changed state note.change).printed ≡ state.printed
-        → Calls (view_of first files printed notes df sf) (view_of first files' printed later df' sf') result
-    done files' df sf df' sf' result same_disk same_say ok none same = record {
-      named = λ name is. is;
-      told = λ t. t;
-      told_before = λ t. t;
-      disk_faults = omega (arith, same_disk);
+        → Calls (view_of names first files printed notes df sf) (view_of names first files' printed later df' sf') result
+    done names files' df sf df' sf' result disk same_say cause none same = record {
+      continues = kept_on names first files printed notes files' printed later df sf df' sf' disk (omega (arith, same_say));
       say_faults = same_say;
-      cause = λ err. absurd (ok err);
+      cause = cause;
       printed = λ t. refl;
       synced = λ t. (sync_at (0 + length notes + 1) note.change, synced_now);
-      time = λ t. elapses files' printed df sf df' sf' _ (λ p c within. absurd (none p c within)) (λ p c now. (now.0 ∙ same ∙ kept.printed_is, image_before c now.1));
+      time = λ t. elapses names files' printed df sf df' sf' _ (λ p c within. absurd (none p c within)) (λ p c now. (now.0 ∙ same ∙ kept.printed_is, image_before c now.1));
     }
 
 only_synced : (file c : List ℕ) → IsLeft file [] c → c ≡ file
@@ -181,10 +177,10 @@ module _ (first files : Image) (printed : List ℕ) (notes later : List Note) (c
       torn area at n copy.items before c (ap length same ∙ long) (subst (λ (f : Image). at ≤ length (file area f)) (sym kept.seen_is) near) (reads first notes)
       (image_now first files printed notes later noted is kept c left)
 
-  pub wrote : {T : Type 0} (files' : Image) (df sf df' sf' : ℕ) (result : Result T Failed) → df ≡ df' → sf ≡ sf' → (IsErr result → ⊥)
-      → Calls (view_of first files printed notes df sf) (view_of first files' printed later df' sf') result
-  wrote files' df sf df' sf' result same_disk same_say ok =
-      done first files printed notes later noted is kept files' df sf df' sf' result same_disk same_say ok (λ p c none. none) (prints_nothing area at copy.items before)
+  pub wrote : {T : Type 0} (names : List (List ℕ) → Type 0) (files' : Image) (df sf df' sf' : ℕ) (result : Result T Failed) → df ≤ df' → sf ≡ sf' → (IsErr result → Rises df df')
+      → Calls (view_of names first files printed notes df sf) (view_of names first files' printed later df' sf') result
+  wrote names files' df sf df' sf' result disk same_say cause =
+      done first files printed notes later noted is kept names files' df sf df' sf' result disk same_say cause (λ p c none. none) (prints_nothing area at copy.items before)
 
   pub no_sync : syncs 0 later ≡ syncs 0 notes
   no_sync = synced_now first files printed notes later noted is kept ∙ append-nil (syncs 0 notes)
@@ -202,22 +198,22 @@ module _ (first files : Image) (printed : List ℕ) (notes later : List Note) (c
   kept_said new is_new =
       kept_noted first files printed notes later told_text is kept files new kept.seen_is ((λ i. kept.printed_is i ++ same i) ∙ sym is_new)
 
-  pub said : {T : Type 0} (new : List ℕ) (df sf df' sf' : ℕ) (result : Result T Failed) → new ≡ printed ++ text → df ≡ df' → sf ≡ sf' → (IsErr result → ⊥) → OnOk result (new ≡ printed ++ text)
-      → Says text (view_of first files printed notes df sf) (view_of first files new later df' sf') result
-  said new df sf df' sf' result is_new same_disk same_say ok whole = record {
-    named = λ name is. is;
-    told = λ t. t;
-    told_before = λ t. t;
+  pub said : {T : Type 0} (whole : List ℕ) (names : List (List ℕ) → Type 0) (new : List ℕ) (df sf df' sf' : ℕ) (result : Result T Failed) → new ≡ printed ++ text → IsPrefix text whole → df ≡ df' → sf ≤ sf' → (IsErr result → Rises sf sf')
+      → OnOk result (new ≡ printed ++ whole) → Says whole (view_of names first files printed notes df sf) (view_of names first files new later df' sf') result
+  said whole names new df sf df' sf' result is_new front same_disk say cause all = record {
+    continues = kept_on names first files printed notes files new later df sf df' sf' (omega (arith, same_disk)) say;
     disk_faults = same_disk;
-    say_faults = omega (arith, same_say);
-    cause = λ err. absurd (ok err);
-    whole = λ t. whole;
-    front = λ t. (text, ([], append-nil text), is_new);
+    cause = cause;
+    whole = λ t. all;
+    front = λ t. (text, front, is_new);
     images = λ t. record { seen = refl; crash = λ c left. image_now first files printed notes later told_text is kept c left; stays = λ c left. image_before first files printed notes later told_text is kept c left; synced = synced_now first files printed notes later told_text is kept ∙ append-nil (syncs 0 notes) };
-    time = λ t. elapses first files printed notes later told_text is kept files new df sf df' sf' _
-        (λ p c within. ((within.0.0, (within.0.1.0, within.0.1.1 ∙ same), within.0.2 ∙ ap (λ (l : List ℕ). l ++ within.0.0) kept.printed_is), within.1))
-        (λ p c now. ((text, ([], append-nil text), now.0 ∙ (λ i. kept.printed_is i ++ same i)), now.1));
+    time = λ t. elapses first files printed notes later told_text is kept names files new df sf df' sf' _
+        (λ p c within. ((within.0.0, longer within.0.0 (within.0.1.0, within.0.1.1 ∙ same), within.0.2 ∙ ap (λ (l : List ℕ). l ++ within.0.0) kept.printed_is), within.1))
+        (λ p c now. ((text, front, now.0 ∙ (λ i. kept.printed_is i ++ same i)), now.1));
   }
+    where
+      longer : (said : List ℕ) → IsPrefix said text → IsPrefix said whole
+      longer said is_front = (is_front.0 ++ front.0, sym (append_assoc said is_front.0 front.0) ∙ ap (λ (l : List ℕ). l ++ front.0) is_front.1 ∙ front.1)
 
 -- before the first call
 pub nothing_pending : (first : Image) (notes : List Note) → notes ≡ [] → (c : Image) → IsImage (replay (start first) notes) c → c ≡ first

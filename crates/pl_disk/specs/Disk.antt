@@ -12,11 +12,11 @@ use Rattle.pl_base.specs.Image.{Image, file, other}
 use Rattle.pl_base.specs.declared.area.Area.{Area}
 use Rattle.pl_disk.specs.declared.device.Failed.{Failed}
 
--- What is known of a host between two calls: its files and their name, what it printed, what a crash may leave or might have left,
--- and how often it failed.
+-- What is known of a host between two calls: its files and the names that it was given, what it printed, what a crash may leave
+-- or might have left, and how often it failed.
 pub record View : Type 1 where
-  -- the store that is attached goes by this name. A store in memory goes by every name
-  pub named : List ℕ → Type 0
+  -- these names, in order, are all that `attach` was given so far
+  pub attached : List (List ℕ) → Type 0
   -- a fact: that the contents and moments are told. Of a host in memory it holds. Of one over real files it doesn't, and the
   -- clauses that begin with it say nothing of that host
   pub told : Type 0
@@ -46,31 +46,35 @@ pub record IsLawful (v : View) : Type 0 where
   -- and the only one since itself
   pub only_now : (p : List ℕ) (c : Image) → v.since v.moment p c → (p ≡ v.printed) × v.may_leave c
 
--- The name stays.
-abbrev pub KeepsName : View → View → Type 0
-KeepsName old new = (name : List ℕ) → old.named name → new.named name
-
--- A view from before `attach`, under the name that it gave.
-abbrev pub renamed : View → View → View
-renamed old new = record old { named = new.named }
+-- A view from before `attach`, as if this name were already there.
+abbrev pub with_attached : List ℕ → View → View
+with_attached name before = record before {
+  attached = λ names. (earlier : List (List ℕ)) × before.attached earlier × (names ≡ earlier ++ name ∷ []);
+}
 
 -- Time goes on: what was true at some moment since t stays so, and each new pair of a text and files has P.
 pub record Elapses (old new : View) (P : List ℕ → Image → Type 0) : Type 0 where
   pub later : old.moment ≤ new.moment
-  pub nothing_else : (t : ℕ) (p : List ℕ) (c : Image) → t ≤ old.moment → new.since t p c → old.since t p c ⊎ P p c
+  pub nothing_else : (t : ℕ) (p : List ℕ) (c : Image) → t ≤ old.moment
+      → new.since t p c → old.since t p c ⊎ P p c
   pub keeps : (t : ℕ) (p : List ℕ) (c : Image) → t ≤ old.moment → old.since t p c → new.since t p c
 
 -- A count rose. One that stands at the greatest u64 stays there: no finite count can always rise.
 abbrev pub Rises : ℕ → ℕ → Type 0
 Rises old new = old < 2 ^ 64 - 1 → old < new
 
--- Each call of a disk, whatever it does to the files: it prints nothing, a count never falls, and it fails only where the
--- disk's count rose. At each moment within it a crash leaves what one after it may leave.
-pub record Calls {T : Type 0} (old new : View) (result : Result T Failed) : Type 0 where
-  pub named : KeepsName old new
+-- What no call changes: the names that were attached, and whether the contents are told. And no count falls.
+pub record Continues (old new : View) : Type 0 where
+  pub attached : (names : List (List ℕ)) → old.attached names → new.attached names
   pub told : old.told → new.told
   pub told_before : new.told → old.told
   pub disk_faults : old.disk_faults ≤ new.disk_faults
+  pub say_faults : old.say_faults ≤ new.say_faults
+
+-- Each call of a disk, whatever it does to the files: it prints nothing, and it fails only where the disk's count rose. At each
+-- moment within it a crash leaves what one after it may leave.
+pub record Calls {T : Type 0} (old new : View) (result : Result T Failed) : Type 0 where
+  pub continues : Continues old new
   pub say_faults : old.say_faults ≡ new.say_faults
   pub cause : IsErr result → Rises old.disk_faults new.disk_faults
   pub printed : old.told → new.printed ≡ old.printed
@@ -83,6 +87,13 @@ pub record Keeps (old new : View) : Type 0 where
   pub crash : (c : Image) → new.may_leave c → old.may_leave c
   pub stays : (c : Image) → old.may_leave c → new.may_leave c
   pub synced : new.synced ≡ old.synced
+
+-- The files were left alone: they read as before, and what a crash may leave now, or might have left at a moment since, one might
+-- have left before.
+pub record Untouched (old new : View) : Type 0 where
+  pub seen : new.seen ≡ old.seen
+  pub now : (c : Image) → new.may_leave c → old.may_leave c
+  pub time : Elapses old new (λ p c. old.may_leave c)
 
 -- The bytes of new are those of old, but from the offset `at` on these.
 abbrev pub Holds : List ℕ → ℕ → List ℕ → List ℕ → Type 0
@@ -124,32 +135,25 @@ IsPrefix xs ys = (rest : List ℕ) × (xs ++ rest ≡ ys)
 
 -- Printing a text: the files stay, at each moment a front of the text is printed, and after Ok all of it.
 pub record Says {T : Type 0} (text : List ℕ) (old new : View) (result : Result T Failed) : Type 0 where
-  pub named : KeepsName old new
-  pub told : old.told → new.told
-  pub told_before : new.told → old.told
+  pub continues : Continues old new
   pub disk_faults : old.disk_faults ≡ new.disk_faults
-  pub say_faults : old.say_faults ≤ new.say_faults
   pub cause : IsErr result → Rises old.say_faults new.say_faults
   pub whole : old.told → OnOk result (new.printed ≡ old.printed ++ text)
   pub front : old.told → (said : List ℕ) × IsPrefix said text × (new.printed ≡ old.printed ++ said)
   pub images : old.told → Keeps old new
-  pub time : old.told → Elapses old new (λ p c. ((said : List ℕ) × IsPrefix said text × (p ≡ old.printed ++ said)) × old.may_leave c)
+  pub time : old.told → Elapses old new
+      (λ p c. ((said : List ℕ) × IsPrefix said text × (p ≡ old.printed ++ said)) × old.may_leave c)
 
--- What a run of calls does: the counts don't fall, and at each moment that it adds the printed text and what a crash may leave
--- have P. Upper layers say what they do in this form, each with a P in its own words.
+-- What a run of calls does: at each moment that it adds the printed text and what a crash may leave have P. Upper layers say what they do in this form, each with a P in its own words.
 pub record Runs (old new : View) (P : List ℕ → Image → Type 0) : Type 0 where
-  pub named : KeepsName old new
-  pub told : old.told → new.told
-  pub told_before : new.told → old.told
-  pub disk_faults : old.disk_faults ≤ new.disk_faults
-  pub say_faults : old.say_faults ≤ new.say_faults
+  pub continues : Continues old new
   pub synced : old.told → (more : List ℕ) × (new.synced ≡ old.synced ++ more)
   pub time : old.told → Elapses old new P
 
--- Of a host that tells nothing of its files or of what it printed: only its counts are known.
+-- Of a host that tells nothing of its files, of its names or of what it printed: only its counts are known.
 abbrev pub untold : ℕ → View
 untold faults = record {
-  named = λ name. Unit {0};
+  attached = λ names. Unit {0};
   told = ⊥;
   seen = record { a = []; b = [] };
   may_leave = λ c. ⊥;
@@ -163,15 +167,19 @@ untold faults = record {
 
 -- What a run of calls does that only looks: it prints nothing and the files stay.
 pub record Looks (old new : View) : Type 0 where
-  pub named : KeepsName old new
-  pub told : old.told → new.told
-  pub told_before : new.told → old.told
-  pub disk_faults : old.disk_faults ≤ new.disk_faults
+  pub continues : Continues old new
   pub say_faults : old.say_faults ≡ new.say_faults
   pub printed : old.told → new.printed ≡ old.printed
   pub images : old.told → Keeps old new
   pub time : old.told → Elapses old new (λ p c. (p ≡ old.printed) × old.may_leave c)
 
+-- What a run of the disk's calls does: it prints nothing, and at each moment that it adds the files that a crash may leave have P.
+pub record Writes (old new : View) (P : Image → Type 0) : Type 0 where
+  pub moments : Runs old new (λ p c. (p ≡ old.printed) × P c)
+  pub printed : old.told → new.printed ≡ old.printed
+  pub say_faults : old.say_faults ≡ new.say_faults
+
 -- At each moment since the first sync of this run that succeeded, the printed text and what a crash may leave have P.
 pub record Settled (old new : View) (P : List ℕ → Image → Type 0) : Type 0 where
-  pub each : (t : ℕ) (later : List ℕ) → new.synced ≡ old.synced ++ t ∷ later → (t ≤ new.moment) × ((p : List ℕ) (c : Image) → new.since t p c → P p c)
+  pub each : (t : ℕ) (later : List ℕ) → new.synced ≡ old.synced ++ t ∷ later
+      → (t ≤ new.moment) × ((p : List ℕ) (c : Image) → new.since t p c → P p c)

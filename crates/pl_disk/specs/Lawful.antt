@@ -81,8 +81,8 @@ only_now : (s : State) (notes : List Note) (p : List ℕ) (c : Image) → Since 
 only_now s [] p c since = since
 only_now s (note ∷ notes) p c since = only_now (changed s note.change) notes p c since
 
-pub lawful_of : (first files : Image) (printed : List ℕ) (notes : List Note) (disk_faults say_faults : ℕ) → IsKept first files printed notes → IsLawful (view_of first files printed notes disk_faults say_faults)
-lawful_of first files printed notes disk_faults say_faults kept = record {
+pub lawful_of : (names : List (List ℕ) → Type 0) (first files : Image) (printed : List ℕ) (notes : List Note) (disk_faults say_faults : ℕ) → IsKept first files printed notes → IsLawful (view_of names first files printed notes disk_faults say_faults)
+lawful_of names first files printed notes disk_faults say_faults kept = record {
   reads = subst (λ c. IsImage (replay (start first) notes) c) kept.seen_is (reads first notes);
   counts_now = λ t c le left. counts_now (start first) notes t printed c le (sym kept.printed_is, left);
   only_now = λ p c since. let now = only_now (start first) notes p c since in (now.0 ∙ kept.printed_is, now.1);

@@ -1,9 +1,12 @@
+pub mod Attached
 pub mod Counts
 pub mod Disk
 pub mod Lawful
 pub mod Left
+pub mod Lent
 pub mod MemoryHosts
 pub mod Picks
 pub mod Replay
 pub mod Script
 pub mod Tally
+pub mod UntoldHosts

@@ -92,10 +92,10 @@ pub record IsKept (first files : Image) (printed : List ℕ) (notes : List Note)
   pub seen_is : (replay (start first) notes).seen ≡ files
   pub printed_is : (replay (start first) notes).printed ≡ printed
 
--- What is known of a host that began with these files and has these now.
-abbrev pub view_of : Image → Image → List ℕ → List Note → ℕ → ℕ → View
-view_of first files printed notes disk_faults say_faults = record {
-  named = λ name. Unit {0};
+-- What is known of a host that was given such names, began with these files and has these now.
+abbrev pub view_of : (List (List ℕ) → Type 0) → Image → Image → List ℕ → List Note → ℕ → ℕ → View
+view_of attached first files printed notes disk_faults say_faults = record {
+  attached = attached;
   told = Unit {0};
   seen = files;
   may_leave = λ c. IsImage (replay (start first) notes) c;

@@ -1,5 +1,6 @@
 -- A script in memory.
-use Rattle.std.specs.Prelude.{ℕ, ◌≡◌, ◌≤◌, ◌↔◌, List, drop, Result, IsErr, OnOk, OnErr}
+use Rattle.std.specs.Prelude.{ℕ, ◌≡◌, ◌≤◌, ◌↔◌, List, [], drop, Result, IsErr, OnOk, OnErr}
+use Rattle.pl_disk.specs.Attached.{AreAttached}
 use Rattle.pl_disk.specs.Tally.{IsListed, raised}
 use Rattle.pl_disk.specs.declared.device.Failed.{Failed}
 use Rattle.pl_disk.specs.declared.memory.script.MemorySource.{MemorySource}
@@ -19,12 +20,17 @@ script_calls s = s.calls
 abbrev pub script_faults : MemorySource → ℕ
 script_faults s = s.faults
 
+-- The names that it was given.
+abbrev pub script_attached : MemorySource → List (List ℕ) → Type 0
+script_attached s = AreAttached s.attached
+
 -- A script of these bytes before the first call.
 pub record IsFreshScript (bytes fail : List ℕ) (s : MemorySource) : Type 0 where
   pub left : left_of s ≡ bytes
   pub fail_list : script_fail_list s ≡ fail
   pub calls : script_calls s ≡ 0
   pub faults : script_faults s ≡ 0
+  pub attached : script_attached s []
 
 -- How a call goes: it counts, it fails exactly where its number is listed, and then takes nothing.
 pub record FailsWhereListed {T : Type 0} (old new : MemorySource) (result : Result T Failed) : Type 0 where

@@ -1,7 +1,7 @@
 //! A store of two files as the program sees it: what a read gives, and what a crash may leave.
-ghost use Rattle.std.specs.Prelude.{◌≡◌, ◌≤◌, ◌<◌, ◌+◌, ◌^◌, List, ℕ, length, take, drop, IfOk, OnOk, OnErr, ◌++◌, ◌∷◌, []};
-ghost use Rattle.pl_base.specs.Image.{Image, file};
-ghost use Rattle.pl_disk.specs.Disk.{View, IsLawful, Calls, Keeps, Follows, TornAt, Only, Written, Says, renamed};
+ghost use Rattle.std.specs.Prelude.{◌≡◌, ◌≤◌, ◌<◌, ◌+◌, ◌^◌, length, take, drop, IfOk, OnOk, OnErr, ◌++◌, ◌∷◌, []};
+ghost use Rattle.pl_base.specs.Image.{Image, file, other};
+ghost use Rattle.pl_disk.specs.Disk.{View, IsLawful, Calls, Keeps, Follows, TornAt, Only, Written, Says, with_attached};
 
 use pl_base::Area;
 
@@ -15,11 +15,10 @@ pub trait Disk {
     /// What is known of the store, of what was printed, and of the counts.
     ghost view: { Self → View };
 
-    /// Takes the store of this name, before any other call. It changes no bytes. Each later call keeps
-    /// the name.
+    /// Takes the store of this name, before any other call. It changes no bytes. The name counts as
+    /// attached after an error too.
     fn attach(&mut self, store: &str) -> Result<(), Failed>
-        ensures named { OnOk result ((view self.new).named store.now) }
-        ensures call { Calls (renamed (view self.old) (view self.new)) (view self.new) result }
+        ensures call { Calls (with_attached store.now (view self.old)) (view self.new) result }
         ensures images { (view self.old).told → Keeps (view self.old) (view self.new) };
 
     /// The length of a file in bytes.
@@ -27,35 +26,48 @@ pub trait Disk {
         ensures call { Calls (view self.old) (view self.new) result }
         ensures bound { IfOk result (λ n. n < 2 ^ 63) }
         ensures images { (view self.old).told → Keeps (view self.old) (view self.new) }
-        ensures is { (view self.old).told → IfOk result (λ n. n ≡ length (file area (view self.old).seen)) };
+        ensures is { (view self.old).told → IfOk result (λ n.
+            n ≡ length (file area (view self.old).seen)) };
 
     /// Fills the buffer with the bytes from `at` on. The caller sees that the file is long enough.
     fn read_at(&mut self, area: Area, at: u64, into: &mut [u8]) -> Result<(), Failed>
-        requires { (view self.old).told → at + length into.old ≤ length (file area (view self.old).seen) }
+        requires { (view self.old).told →
+            at + length into.old ≤ length (file area (view self.old).seen) }
         ensures call { Calls (view self.old) (view self.new) result }
         ensures images { (view self.old).told → Keeps (view self.old) (view self.new) }
-        ensures bytes { (view self.old).told → OnOk result (into.new ≡ take (length into.old) (drop at (file area (view self.old).seen))) };
+        ensures bytes { (view self.old).told → OnOk result (
+            into.new ≡ take (length into.old) (drop at (file area (view self.old).seen))) };
 
     /// Writes over what is there, and past the end. `at` is at most the length. Until a sync that
-    /// succeeds, a crash may leave any bytes in the range, also after an error.
+    /// succeeds, a crash may leave any bytes in the range, also after an error. The other file reads
+    /// as before, also after an error.
     fn write_at(&mut self, area: Area, at: u64, bytes: &[u8]) -> Result<(), Failed>
         requires { (view self.old).told → at ≤ length (file area (view self.old).seen) }
         ensures call { Calls (view self.old) (view self.new) result }
         ensures within { OnOk result (at + length bytes.now < 2 ^ 63) }
-        ensures written { (view self.old).told → OnOk result (Written area at bytes.now (view self.old).seen (view self.new).seen) }
+        ensures written { (view self.old).told → OnOk result (
+            Written area at bytes.now (view self.old).seen (view self.new).seen) }
+        ensures rest { (view self.old).told →
+            file (other area) (view self.new).seen ≡ file (other area) (view self.old).seen }
         ensures synced { (view self.old).told → (view self.new).synced ≡ (view self.old).synced }
-        ensures crash { (view self.old).told → Follows (TornAt area at (length bytes.now)) (view self.old).may_leave (view self.new).may_leave };
+        ensures crash { (view self.old).told → Follows (TornAt area at (length bytes.now))
+            (view self.old).may_leave (view self.new).may_leave };
 
     /// Settles both files: after Ok a crash leaves what a read gives. After an error nothing is settled.
     fn sync(&mut self) -> Result<(), Failed>
         ensures call { Calls (view self.old) (view self.new) result }
         ensures seen { (view self.old).told → (view self.new).seen ≡ (view self.old).seen }
-        ensures settled { (view self.old).told → OnOk result ((view self.new).synced ≡ (view self.old).synced ++ (view self.new).moment ∷ []) }
-        ensures unsettled { (view self.old).told → OnErr result ((view self.new).synced ≡ (view self.old).synced) }
-        ensures durable { (view self.old).told → OnOk result (Only (view self.old).seen (view self.new).may_leave) }
-        ensures crash { (view self.old).told → (c : Image) → (view self.new).may_leave c → (view self.old).may_leave c };
+        ensures settled { (view self.old).told → OnOk result (
+            (view self.new).synced ≡ (view self.old).synced ++ (view self.new).moment ∷ []) }
+        ensures unsettled { (view self.old).told → OnErr result (
+            (view self.new).synced ≡ (view self.old).synced) }
+        ensures durable { (view self.old).told → OnOk result (
+            Only (view self.old).seen (view self.new).may_leave) }
+        ensures crash { (view self.old).told → (c : Image)
+            → (view self.new).may_leave c → (view self.old).may_leave c };
 
-    /// A disk as it reads is one of its images, this moment is one of those since an earlier one, and since it there is no other.
+    /// A disk as it reads is one of its images, this moment is one of those since an earlier one, and
+    /// since it there is no other.
     ghost lawful: { (disk : Self) → (view disk).told → IsLawful (view disk) };
 }
 

@@ -1,5 +1,5 @@
 //! Where the script comes from.
-ghost use Rattle.std.specs.Prelude.{◌≡◌, ◌≤◌, ◌++◌, ◌⊎◌, [], List, ℕ, length, take, drop, Option, Some, IfOk, OnOk, IsErr};
+ghost use Rattle.std.specs.Prelude.{◌≡◌, ◌≤◌, ◌++◌, ◌∷◌, ◌⊎◌, [], List, ℕ, length, take, drop, Option, Some, IfOk, OnOk, IsErr};
 ghost use Rattle.pl_disk.specs.Disk.{Rises};
 
 use crate::Failed;
@@ -9,16 +9,16 @@ pub trait Source {
     /// What is left, where that is told.
     ghost left: { Self → Option (List ℕ) };
 
-    /// The script that is attached goes by this name. One in memory goes by every name.
-    ghost named: { Self → List ℕ → Type 0 };
+    /// These names, in order, are all that `attach` was given so far.
+    ghost attached: { Self → List (List ℕ) → Type 0 };
 
     /// How often it failed.
     ghost faults: { Self → ℕ };
 
-    /// Takes the script of this name, before any other call. It reads nothing. Each later call keeps
-    /// the name.
+    /// Takes the script of this name, before any other call. It reads nothing.
     fn attach(&mut self, script: &str) -> Result<(), Failed>
-        ensures named { OnOk result (named self.new script.now) }
+        ensures attached { (names : List (List ℕ)) → attached self.old names
+            → attached self.new (names ++ script.now ∷ []) }
         ensures left { OnOk result (left self.new ≡ left self.old) }
         ensures faults { faults self.old ≤ faults self.new }
         ensures cause { IsErr result → Rises (faults self.old) (faults self.new) };
@@ -26,10 +26,14 @@ pub trait Source {
     /// Moves the next bytes to the front of the buffer, at most as many as it has room for, and gives
     /// their number. Zero for a buffer that isn't empty is the end.
     fn take(&mut self, into: &mut [u8]) -> Result<usize, Failed>
-        ensures named { (name : List ℕ) → named self.old name → named self.new name }
+        ensures attached { (names : List (List ℕ)) → attached self.old names
+            → attached self.new names }
         ensures within { IfOk result (λ n. n ≤ length into.old) }
-        ensures moved { (rest : List ℕ) → left self.old ≡ Some rest → IfOk result (λ n. (n ≤ length rest)
-            × (into.new ≡ take n rest ++ drop n into.old) × (left self.new ≡ Some (drop n rest)) × (n ≡ 0 → (length into.old ≡ 0) ⊎ (rest ≡ []))) }
+        ensures moved { (rest : List ℕ) → left self.old ≡ Some rest → IfOk result (λ n.
+            (n ≤ length rest)
+            × (into.new ≡ take n rest ++ drop n into.old)
+            × (left self.new ≡ Some (drop n rest))
+            × (n ≡ 0 → (length into.old ≡ 0) ⊎ (rest ≡ []))) }
         ensures faults { faults self.old ≤ faults self.new }
         ensures cause { IsErr result → Rises (faults self.old) (faults self.new) };
 }

@@ -1,21 +1,27 @@
 //! A host that tells nothing of its files.
-ghost use Rattle.pl_disk.specs.Disk.{untold};
 
 use crate::memory::one_more;
-use crate::{Area, Disk, Failed, Host};
+use crate::{Area, Attached, Disk, Failed, Host};
 
 /// A host of which nothing is known but how often it failed. It keeps nothing: its files read as
 /// empty, and each write, sync and text fails.
 #[derive(Drop)]
 pub struct UntoldHost {
+    attached: Attached,
     disk_faults: u64,
     say_faults: u64,
 }
 
 impl UntoldHost {
+    ghost use Rattle.std.specs.Prelude.{[]};
+    ghost use Rattle.pl_disk.specs.UntoldHosts.{untold_view};
+
     /// A host that has taken no call yet.
-    pub fn new() -> UntoldHost {
+    pub fn new() -> UntoldHost
+        ensures attached { (untold_view result).attached [] }
+    {
         UntoldHost {
+            attached: Attached::Nothing,
             disk_faults: 0,
             say_faults: 0,
         }
@@ -23,11 +29,14 @@ impl UntoldHost {
 }
 
 impl Disk for UntoldHost {
-    ghost view = { λ h. record (untold h.disk_faults) { say_faults = h.say_faults } };
+    ghost use Rattle.pl_disk.specs.UntoldHosts.{untold_view};
+
+    ghost view = { λ h. untold_view h };
 
     ghost lawful = { λ h told. absurd told };
 
     fn attach(&mut self, store: &str) -> Result<(), Failed> {
+        self.attached.add_lost();
         Ok(())
     }
 

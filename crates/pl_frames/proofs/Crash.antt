@@ -6,7 +6,7 @@ use Rattle.std.proofs.lemmas.Bool.{cases_eq}
 use Rattle.std.specs.List.{flat_map}
 use Rattle.std.specs.Int.{to_be_bytes, w64}
 use Rattle.pl_disk.specs.Disk.{Holds, Torn}
-use Rattle.pl_model.specs.Format.{Frames, frame_bytes, body_bytes}
+use Rattle.pl_frames.specs.Format.{Frames, frame_bytes, body_bytes}
 
 -- all up to the place
 abbrev pub front : List ℕ → List (List ℕ) → List ℕ

@@ -2,7 +2,7 @@
 use Rattle.std.proofs.Common.{◌≡◌, ◌≢◌, ◌<◌, ℕ, ◌+◌, ◌-◌, List, ◌∷◌, ◌++◌, length, get_or, take, drop, sym, ◌∙◌, ap, arith, append_assoc, length-drop, take-append-drop}
 use Rattle.std.proofs.lemmas.List.{drop_more, drop-drop, drop-take, get_or-take, take_all}
 use Rattle.std.specs.Int.{to_be_bytes, from_be_bytes, w64}
-use Rattle.pl_model.specs.Format.{frame_bytes}
+use Rattle.pl_frames.specs.Format.{frame_bytes}
 use Rattle.pl_frames.specs.Frame.{IsBroken}
 
 module _ (file : List ℕ) (at : ℕ) (there : at < length file) (head : List ℕ) (size : ℕ) (some : 0 < size) (is : head ≡ take size (drop at file)) where

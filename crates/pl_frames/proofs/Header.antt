@@ -3,22 +3,16 @@ use Rattle.std.proofs.Common.{◌≡◌, ◌≢◌, ◌⊎◌, ◌≤◌, inl, i
 use Rattle.std.proofs.lemmas.Bool.{cases_eq}
 use Rattle.std.proofs.lemmas.Bool.Decides.{nat_tests}
 use Rattle.std.proofs.Common.{subst}
-use Rattle.std.proofs.lemmas.List.{append-nil}
 use Rattle.pl_base.specs.Image.{Image, file}
 use Rattle.pl_base.specs.declared.area.Area.{Area}
-use Rattle.pl_model.specs.Format.{is_open, header_bytes}
-use Rattle.pl_disk.specs.Disk.{Holds, Torn, View, TornAt, Written, After, Only, IsLawful, Runs, Looks}
-use Rattle.pl_disk.proofs.Moments.{run_weaker, runs_on}
-use Rattle.pl_frames.specs.Header.{MayClose, MayOpen, Shut, Laid}
+use Rattle.pl_frames.specs.Format.{is_open, header_bytes}
+use Rattle.pl_disk.specs.Disk.{Holds, Torn, View, TornAt, Written, After, Only, IsLawful, Looks, Writes}
+use Rattle.pl_disk.specs.Lent.{writes_weaker, writes_on, looked_writes}
+use Rattle.pl_frames.specs.Lent.{not_one_closed}
+use Rattle.pl_frames.specs.Header.{MayClose, MayOpen, Shut, Laid, Leaves}
 
 short_closed : (c : List ℕ) → length c ≤ 1 → is_open c ≡ false
 short_closed c short = grind (arith, nat_tests)
-
-not_one_closed : (x : ℕ) (c : List ℕ) → x ≢ 1 → is_open (x ∷ c) ≡ false
-not_one_closed x c shut = grind (arith, nat_tests)
-
-pub shut_closed : (file : List ℕ) → Shut file → is_open file ≡ false
-shut_closed file is = ap is_open is.split ∙ not_one_closed is.gate is.rest is.shut
 
 pub closing : (d c : List ℕ) → (length d ≡ 0) ⊎ (get_or d 0 0 ≡ 1) → Torn 0 1 d c → (c ≡ d) ⊎ (is_open c ≡ false)
 closing [] c first torn = inr (short_closed c (omega (arith, torn.no_longer)))
@@ -70,66 +64,44 @@ same_gate : (d c body : List ℕ) {generation : ℕ} (was : Shut d) (laid : Laid
 same_gate d c body was laid is one = was.shut (sym (ap (λ (l : List ℕ). get_or l 0 0) (sym laid.split ∙ is ∙ ap (λ (l : List ℕ). take 1 l ++ body ++ drop (1 + length body) d) was.split)) ∙ one)
 
 -- whole runs
-abbrev pub Steps : (Image → Image → Type 0) → View → List ℕ → Image → Type 0
-Steps step v p c = (p ≡ v.printed) × After step v.may_leave c
-
 module _ (area : Area) where
-  looked : (a b : View) → Looks a b → Runs a b (λ p c. (p ≡ a.printed) × a.may_leave c)
-  looked a b looks = record {
-    named = looks.named;
-    told = looks.told;
-    told_before = looks.told_before;
-    disk_faults = looks.disk_faults;
-    say_faults = omega (arith, looks.say_faults);
-    synced = λ t. ([], (looks.images t).synced ∙ sym (append-nil a.synced));
-    time = looks.time;
-  }
+  pub close_looks : (a b : View) → Looks a b → Writes a b (After (MayClose area) a.may_leave)
+  close_looks a b looks = writes_weaker a b _ _ (looked_writes a b looks) (λ told c is. (c, is, record { rest = refl; change = inl refl }))
 
-  pub close_looks : (a b : View) → Looks a b → Runs a b (Steps (MayClose area) a)
-  close_looks a b looks = run_weaker a b _ (Steps (MayClose area) a) (looked a b looks) (λ told p c is. (is.0, (c, is.1, record { rest = refl; change = inl refl })))
-
-  pub close_writes : (a b d : View) → Looks a b → (a.told → (c : Image) → a.may_leave c → take 1 (file area c) ≡ take 1 (file area a.seen)) → (a.told → (length (file area a.seen) ≡ 0) ⊎ (get_or (file area a.seen) 0 0 ≡ 1))
-      → Runs b d (Steps (TornAt area 0 1) b) → Runs a d (Steps (MayClose area) a)
+  pub close_writes : (a b d : View) → Looks a b → (a.told → Leaves area (λ f. take 1 f ≡ take 1 (file area a.seen)) a) → (a.told → (length (file area a.seen) ≡ 0) ⊎ (get_or (file area a.seen) 0 0 ≡ 1))
+      → Writes b d (After (TornAt area 0 1) b.may_leave) → Writes a d (After (MayClose area) a.may_leave)
   close_writes a b d looks gate first write =
-      runs_on a b d _ _ (Steps (MayClose area) a) (looked a b looks) write
-      (λ told p c is. (is.0, (c, is.1, record { rest = refl; change = inl refl })))
-      (λ told p c is. (
-        is.0 ∙ looks.printed told,
-        (
-          is.1.0,
-          (looks.images told).crash is.1.0 is.1.1,
-          record {
-            rest = is.1.2.rest;
-            change = closing (file area is.1.0) (file area c) (same_first (file area is.1.0) (file area a.seen) (gate told is.1.0 ((looks.images told).crash is.1.0 is.1.1)) (first told)) is.1.2.torn;
-          },
-        ),
+      writes_on a b d _ _ _ (looked_writes a b looks) write
+      (λ told c is. (c, is, record { rest = refl; change = inl refl }))
+      (λ told c is.
+      let was = (looks.images told).crash is.0 is.1 in (
+        is.0,
+        was,
+        record {
+          rest = is.2.rest;
+          change = closing (file area is.0) (file area c) (same_first (file area is.0) (file area a.seen) (gate told is.0 was) (first told)) is.2.torn;
+        },
       ))
 
-  pub close_looked : (a b : View) → a.told → Looks a b → (a.told → (c : Image) → a.may_leave c → take 1 (file area c) ≡ take 1 (file area a.seen)) → Shut (file area a.seen) → (c : Image) → b.may_leave c → Shut (file area c)
+  pub close_looked : (a b : View) → a.told → Looks a b → (a.told → Leaves area (λ f. take 1 f ≡ take 1 (file area a.seen)) a) → Shut (file area a.seen) → Leaves area Shut b
   close_looked a b told looks gate shut c left = shut_laid (file area a.seen) (file area c) (gate told c ((looks.images told).crash c left)) shut
 
   pub close_written : (old new : Image) (left : Image → Type 0) → Only new left → Written area 0 (0 ∷ []) old new → (c : Image) → left c → Shut (file area c)
   close_written old new left only written c is = subst (λ (i : Image). Shut (file area i)) (sym (only c is)) (shut_written (file area old) (file area new) written.holds)
 
   pub lay_written : (old new : View) (generation : ℕ) (body : List ℕ) → IsLawful old → Only new.seen new.may_leave → Written area 1 body old.seen new.seen → body ≡ header_bytes generation ++ 0 ∷ []
-      → ((c : Image) → old.may_leave c → Shut (file area c)) → (c : Image) → new.may_leave c → Shut (file area c) × Laid generation (file area c)
+      → Leaves area Shut old → Leaves area (λ f. Shut f × Laid generation f) new
   lay_written old new generation body lawful only written is shut c left =
       let was = shut old.seen lawful.reads in
       let laid = laid_written (file area old.seen) (file area new.seen) body generation was is written.holds in
       let P : Image → Type 0 = λ i. Shut (file area i) × Laid generation (file area i) in
       subst P (sym (only c left)) (record { gate = laid.gate; rest = header_bytes generation ++ 0 ∷ laid.rest; split = laid.split; shut = same_gate (file area old.seen) (file area new.seen) body was laid written.holds }, laid)
 
-  pub open_runs : (a b : View) → (a.told → (c : Image) → a.may_leave c → Shut (file area c)) → Runs a b (Steps (TornAt area 0 1) a) → Runs a b (Steps (MayOpen area) a)
-  open_runs a b shut run = run_weaker a b _ (Steps (MayOpen area) a) run (λ told p c is. (
+  pub open_runs : (a b : View) → (a.told → Leaves area Shut a) → Writes a b (After (TornAt area 0 1) a.may_leave) → Writes a b (After (MayOpen area) a.may_leave)
+  open_runs a b shut run = writes_weaker a b _ _ run (λ told c is. (
     is.0,
-    (
-      is.1.0,
-      is.1.1,
-      record {
-        rest = is.1.2.rest;
-        change = opening (file area is.1.0) (file area c) (shut told is.1.0 is.1.1) is.1.2.torn;
-      },
-    ),
+    is.1,
+    record { rest = is.2.rest; change = opening (file area is.0) (file area c) (shut told is.0 is.1) is.2.torn },
   ))
 
   pub open_done : (old new : Image) (left : Image → Type 0) → Only new left → Written area 0 (1 ∷ []) old new → (c : Image) → left c → file area c ≡ 1 ∷ drop 1 (file area old)

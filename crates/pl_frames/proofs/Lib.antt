@@ -2,5 +2,4 @@ pub mod Crash
 pub mod Steps
 pub mod Looks
 pub mod Gate
-pub mod Walk
 pub mod Header

@@ -1,2 +1,5 @@
+pub mod Cause
+pub mod Format
 pub mod Frame
 pub mod Header
+pub mod Lent

@@ -2,13 +2,12 @@
 //! where its gate is 1 and a byte stands behind it. Its header and a closed first gate are on the
 //! disk before its gate is opened; so a crash leaves it closed or whole.
 
-ghost use Rattle.std.specs.Prelude.{◌≡◌, ◌≤◌, ◌++◌, ◌∷◌, [], ℕ, take, drop, IfOk, OnOk, IsErrOf};
-ghost use Rattle.pl_base.specs.Image.{Image, file};
-ghost use Rattle.pl_base.specs.declared.area.Area.{Area};
-ghost use Rattle.pl_model.specs.Format.{header_bytes};
-ghost use Rattle.pl_disk.specs.Disk.{After, Runs, Rises, Looks};
-ghost use Rattle.pl_frames.specs.Header.{Shut, Laid, MayClose, MayLay, MayOpen, IsInspected, IsShutRead};
-ghost use Rattle.pl_frames.specs.declared.fail.FrameFail.TheVariants.{Fault, Damaged};
+ghost use Rattle.std.specs.Prelude.{◌≡◌, ◌++◌, ◌∷◌, [], take, drop, IfOk, IfErr, OnOk};
+ghost use Rattle.pl_base.specs.Image.{file};
+ghost use Rattle.pl_disk.specs.Disk.{After, Looks, Writes};
+ghost use Rattle.pl_frames.specs.Cause.{HasCause, Never};
+ghost use Rattle.pl_frames.specs.Format.{header_bytes};
+ghost use Rattle.pl_frames.specs.Header.{Shut, Laid, Leaves, MayClose, MayLay, MayOpen, IsInspected, LacksHeader, IsShutRead};
 
 use crate::FrameFail;
 use crate::bytes::{CLOSED, OPEN, number_of, read_exact, write_synced};
@@ -24,8 +23,10 @@ const MAGIC: [u8; 8] = *b"PLPGST01";
 #[tactic(auto, using(crate::proofs::Looks::looking))]
 pub fn inspect<D: Disk>(alloc: Global, disk: &mut D, area: Area) -> Result<Option<u64>, FrameFail>
     ensures looks { Looks (D.view disk.old) (D.view disk.new) }
-    ensures read { (D.view disk.old).told → IsInspected area (file area (D.view disk.old).seen) result }
-    ensures fault { IsErrOf result Fault → Rises (D.view disk.old).disk_faults (D.view disk.new).disk_faults }
+    ensures read { (D.view disk.old).told → IfOk result (
+        IsInspected (file area (D.view disk.old).seen)) }
+    ensures cause { IfErr result (
+        HasCause (LacksHeader area (D.view disk.old)) (D.view disk.old) (D.view disk.new)) }
 {
     let len = disk.len(area)?;
     if len < 2 {
@@ -50,9 +51,9 @@ pub fn inspect<D: Disk>(alloc: Global, disk: &mut D, area: Area) -> Result<Optio
 #[tactic(auto, using(crate::proofs::Looks::looking))]
 fn is_shut<D: Disk>(alloc: Global, disk: &mut D, area: Area) -> Result<bool, FrameFail>
     ensures looks { Looks (D.view disk.old) (D.view disk.new) }
-    ensures read { (D.view disk.old).told → IfOk result (λ shut. IsShutRead (file area (D.view disk.old).seen) shut) }
-    ensures fault { IsErrOf result Fault → Rises (D.view disk.old).disk_faults (D.view disk.new).disk_faults }
-    ensures damaged { (a : Area) (p : ℕ) → IsErrOf result (Damaged a p) → ⊥ }
+    ensures read { (D.view disk.old).told → IfOk result (
+        IsShutRead (file area (D.view disk.old).seen)) }
+    ensures cause { IfErr result (HasCause Never (D.view disk.old) (D.view disk.new)) }
 {
     if disk.len(area)? == 0 {
         return Ok(false);
@@ -65,16 +66,14 @@ fn is_shut<D: Disk>(alloc: Global, disk: &mut D, area: Area) -> Result<bool, Fra
 /// cuts short could open it.
 pub fn close_area<D: Disk>(alloc: Global, disk: &mut D, area: Area) -> Result<(), FrameFail>
     // Byte 0 is settled: a crash leaves the one that is read.
-    requires gate { (D.view disk.old).told → (c : Image) → (D.view disk.old).may_leave c → take 1 (file area c) ≡ take 1 (file area (D.view disk.old).seen) }
+    requires gate { (D.view disk.old).told → Leaves area
+        (λ f. take 1 f ≡ take 1 (file area (D.view disk.old).seen)) (D.view disk.old) }
 
     // A crash at any moment leaves the area of some image from before, or a closed one.
-    ensures moments { Runs (D.view disk.old) (D.view disk.new) (λ p c.
-        (p ≡ (D.view disk.old).printed) × After (MayClose area) (D.view disk.old).may_leave c) }
-    ensures printed { (D.view disk.old).told → (D.view disk.new).printed ≡ (D.view disk.old).printed }
-    ensures closed { (D.view disk.old).told → OnOk result ((c : Image) → (D.view disk.new).may_leave c → Shut (file area c)) }
-    ensures fault { IsErrOf result Fault → Rises (D.view disk.old).disk_faults (D.view disk.new).disk_faults }
-    ensures damaged { (a : Area) (p : ℕ) → IsErrOf result (Damaged a p) → ⊥ }
-    ensures say_faults { (D.view disk.new).say_faults ≡ (D.view disk.old).say_faults }
+    ensures writes { Writes (D.view disk.old) (D.view disk.new)
+        (After (MayClose area) (D.view disk.old).may_leave) }
+    ensures closed { (D.view disk.old).told → OnOk result (Leaves area Shut (D.view disk.new)) }
+    ensures cause { IfErr result (HasCause Never (D.view disk.old) (D.view disk.new)) }
 {
     if is_shut(alloc, disk, area)? {
         return Ok(());
@@ -101,16 +100,14 @@ pub fn lay_header<D: Disk>(
     area: Area,
     generation: u64,
 ) -> Result<(), FrameFail>
-    requires shut { (D.view disk.old).told → (c : Image) → (D.view disk.old).may_leave c → Shut (file area c) }
+    requires shut { (D.view disk.old).told → Leaves area Shut (D.view disk.old) }
 
     // A crash at any moment leaves the area's gate as it is in some image from before.
-    ensures moments { Runs (D.view disk.old) (D.view disk.new) (λ p c.
-        (p ≡ (D.view disk.old).printed) × After (MayLay area) (D.view disk.old).may_leave c) }
-    ensures printed { (D.view disk.old).told → (D.view disk.new).printed ≡ (D.view disk.old).printed }
-    ensures laid { (D.view disk.old).told → OnOk result ((c : Image) → (D.view disk.new).may_leave c → Shut (file area c) × Laid generation (file area c)) }
-    ensures fault { IsErrOf result Fault → Rises (D.view disk.old).disk_faults (D.view disk.new).disk_faults }
-    ensures damaged { (a : Area) (p : ℕ) → IsErrOf result (Damaged a p) → ⊥ }
-    ensures say_faults { (D.view disk.new).say_faults ≡ (D.view disk.old).say_faults }
+    ensures writes { Writes (D.view disk.old) (D.view disk.new)
+        (After (MayLay area) (D.view disk.old).may_leave) }
+    ensures laid { (D.view disk.old).told → OnOk result (
+        Leaves area (λ f. Shut f × Laid generation f) (D.view disk.new)) }
+    ensures cause { IfErr result (HasCause Never (D.view disk.old) (D.view disk.new)) }
 {
     let body = header_body(alloc, generation)?;
     write_synced(disk, area, 1, &body)?;
@@ -119,16 +116,14 @@ pub fn lay_header<D: Disk>(
 
 /// Opens an area whose header is laid.
 pub fn open_area<D: Disk>(disk: &mut D, area: Area) -> Result<(), FrameFail>
-    requires shut { (D.view disk.old).told → (c : Image) → (D.view disk.old).may_leave c → Shut (file area c) }
+    requires shut { (D.view disk.old).told → Leaves area Shut (D.view disk.old) }
 
     // A crash at any moment leaves the area of some image from before, closed or opened.
-    ensures moments { Runs (D.view disk.old) (D.view disk.new) (λ p c.
-        (p ≡ (D.view disk.old).printed) × After (MayOpen area) (D.view disk.old).may_leave c) }
-    ensures printed { (D.view disk.old).told → (D.view disk.new).printed ≡ (D.view disk.old).printed }
-    ensures opened { (D.view disk.old).told → OnOk result ((c : Image) → (D.view disk.new).may_leave c → file area c ≡ 1 ∷ drop 1 (file area (D.view disk.old).seen)) }
-    ensures fault { IsErrOf result Fault → Rises (D.view disk.old).disk_faults (D.view disk.new).disk_faults }
-    ensures damaged { (a : Area) (p : ℕ) → IsErrOf result (Damaged a p) → ⊥ }
-    ensures say_faults { (D.view disk.new).say_faults ≡ (D.view disk.old).say_faults }
+    ensures writes { Writes (D.view disk.old) (D.view disk.new)
+        (After (MayOpen area) (D.view disk.old).may_leave) }
+    ensures opened { (D.view disk.old).told → OnOk result (Leaves area
+        (λ f. f ≡ 1 ∷ drop 1 (file area (D.view disk.old).seen)) (D.view disk.new)) }
+    ensures cause { IfErr result (HasCause Never (D.view disk.old) (D.view disk.new)) }
 {
     write_synced(disk, area, 0, &[OPEN])?;
     Ok(())

@@ -1,12 +1,11 @@
 //! Bytes of an area as the other calls read and write them: gates, numbers, writes that wait until
 //! they are on the disk, and reads of as many bytes as are asked for.
 
-ghost use Rattle.std.specs.Prelude.{◌≡◌, ◌≤◌, ◌<◌, ◌+◌, ◌^◌, ℕ, length, take, drop, IfOk, OnOk, IsErr, IsErrOf};
+ghost use Rattle.std.specs.Prelude.{◌≡◌, ◌≤◌, ◌<◌, ◌+◌, ◌^◌, length, take, drop, IfOk, IfErr, OnOk, IsErr};
 ghost use Rattle.std.specs.Int.{to_be_bytes, from_be_bytes, w64};
-ghost use Rattle.pl_base.specs.Image.{file};
-ghost use Rattle.pl_base.specs.declared.area.Area.{Area};
-ghost use Rattle.pl_disk.specs.Disk.{After, TornAt, Only, Written, Runs, Rises, Looks};
-ghost use Rattle.pl_frames.specs.declared.fail.FrameFail.TheVariants.{Fault, Damaged};
+ghost use Rattle.pl_base.specs.Image.{file, other};
+ghost use Rattle.pl_disk.specs.Disk.{After, TornAt, Only, Written, Rises, Looks, Writes};
+ghost use Rattle.pl_frames.specs.Cause.{HasCause, Never};
 
 use crate::FrameFail;
 use pl_base::Area;
@@ -22,14 +21,17 @@ pub const CLOSED: u8 = 0;
 /// Writes bytes and waits until they are on the disk.
 pub fn write_synced<D: Disk>(disk: &mut D, area: Area, at: u64, bytes: &[u8]) -> Result<(), Failed>
     requires { (D.view disk.old).told → at ≤ length (file area (D.view disk.old).seen) }
-    ensures moments { Runs (D.view disk.old) (D.view disk.new) (λ p c.
-        (p ≡ (D.view disk.old).printed) × After (TornAt area at (length bytes.now)) (D.view disk.old).may_leave c) }
-    ensures printed { (D.view disk.old).told → (D.view disk.new).printed ≡ (D.view disk.old).printed }
-    ensures written { (D.view disk.old).told → OnOk result (Written area at bytes.now (D.view disk.old).seen (D.view disk.new).seen) }
-    ensures durable { (D.view disk.old).told → OnOk result (Only (D.view disk.new).seen (D.view disk.new).may_leave) }
+    ensures writes { Writes (D.view disk.old) (D.view disk.new)
+        (After (TornAt area at (length bytes.now)) (D.view disk.old).may_leave) }
+    ensures written { (D.view disk.old).told → OnOk result (
+        Written area at bytes.now (D.view disk.old).seen (D.view disk.new).seen) }
+    ensures rest { (D.view disk.old).told →
+        file (other area) (D.view disk.new).seen ≡ file (other area) (D.view disk.old).seen }
+    ensures durable { (D.view disk.old).told → OnOk result (
+        Only (D.view disk.new).seen (D.view disk.new).may_leave) }
     ensures within { OnOk result (at + length bytes.now < 2 ^ 63) }
-    ensures cause { IsErr result → Rises (D.view disk.old).disk_faults (D.view disk.new).disk_faults }
-    ensures say_faults { (D.view disk.new).say_faults ≡ (D.view disk.old).say_faults }
+    ensures cause { IsErr result →
+        Rises (D.view disk.old).disk_faults (D.view disk.new).disk_faults }
 {
     disk.write_at(area, at, bytes)?;
     disk.sync()
@@ -46,10 +48,10 @@ pub fn read_exact<D: Disk>(
 ) -> Result<Vec<u8>, FrameFail>
     requires { (D.view disk.old).told → at + size ≤ length (file area (D.view disk.old).seen) }
     ensures looks { Looks (D.view disk.old) (D.view disk.new) }
-    ensures bytes { (D.view disk.old).told → IfOk result (λ bytes. bytes.items ≡ take size (drop at (file area (D.view disk.old).seen))) }
+    ensures bytes { (D.view disk.old).told → IfOk result (λ bytes.
+        bytes.items ≡ take size (drop at (file area (D.view disk.old).seen))) }
     ensures size { IfOk result (λ bytes. length bytes.items ≡ size) }
-    ensures fault { IsErrOf result Fault → Rises (D.view disk.old).disk_faults (D.view disk.new).disk_faults }
-    ensures damaged { (a : Area) (p : ℕ) → IsErrOf result (Damaged a p) → ⊥ }
+    ensures cause { IfErr result (HasCause Never (D.view disk.old) (D.view disk.new)) }
 {
     let mut bytes = Vec::new(alloc);
     bytes.resize(size as usize, 0)?;

@@ -3,13 +3,13 @@
 //! the disk before the gate before it is opened; so a crash leaves the frames with the new one or
 //! without it.
 
-ghost use Rattle.std.specs.Prelude.{◌≡◌, ◌≤◌, ◌<◌, ◌+◌, ◌^◌, ℕ, length, IfOk, OnOk, IfSome, IsErrOf};
-ghost use Rattle.pl_base.specs.Image.{file};
-ghost use Rattle.pl_base.specs.declared.area.Area.{Area};
-ghost use Rattle.pl_model.specs.Format.{body_bytes};
-ghost use Rattle.pl_disk.specs.Disk.{After, Only, Runs, Rises, Looks};
-ghost use Rattle.pl_frames.specs.Frame.{EndsAt, MayAppend, Appended, IsRead};
-ghost use Rattle.pl_frames.specs.declared.fail.FrameFail.TheVariants.{Fault, Damaged};
+ghost use Rattle.std.specs.Prelude.{◌≡◌, ◌≤◌, ◌<◌, ◌+◌, ◌^◌, length, IfOk, IfErr, IfSome, IsErrOf};
+ghost use Rattle.pl_base.specs.Image.{file, other};
+ghost use Rattle.pl_disk.specs.Disk.{After, Looks, Writes};
+ghost use Rattle.pl_frames.specs.Cause.{HasCause, Never};
+ghost use Rattle.pl_frames.specs.Format.{body_bytes};
+ghost use Rattle.pl_frames.specs.Frame.{EndsAt, MayAppend, Appended, IsRead, BreaksAt};
+ghost use Rattle.pl_frames.specs.declared.fail.FrameFail.TheVariants.{Memory};
 
 use crate::FrameFail;
 use crate::bytes::{CLOSED, OPEN, number_of, read_exact, write_synced};
@@ -39,7 +39,8 @@ fn frame_body(alloc: Global, payload: &[u8]) -> Result<Vec<u8>, AllocError>
 /// Puts a frame behind the others, at the place of the first closed gate. The answer is the place of
 /// the next gate, which is closed. Places are bytes of the file, counted from 0.
 ///
-/// `Fault` comes where a call of the disk failed: the frame may then be there or not.
+/// `Fault` comes where a call of the disk failed: the frame may then be there or not. `Memory` comes
+/// before anything is done.
 pub fn append<D: Disk>(
     alloc: Global,
     disk: &mut D,
@@ -52,19 +53,19 @@ pub fn append<D: Disk>(
     requires ends { (D.view disk.old).told → EndsAt area at (D.view disk.old).may_leave }
 
     // A crash at any moment leaves the frames of some image from before, with the new one or without.
-    ensures moments { Runs (D.view disk.old) (D.view disk.new) (λ p c.
-        (p ≡ (D.view disk.old).printed) × After (MayAppend area at payload.now) (D.view disk.old).may_leave c) }
-    ensures printed { (D.view disk.old).told → (D.view disk.new).printed ≡ (D.view disk.old).printed }
+    ensures writes { Writes (D.view disk.old) (D.view disk.new)
+        (After (MayAppend area at payload.now) (D.view disk.old).may_leave) }
+    ensures rest { (D.view disk.old).told →
+        file (other area) (D.view disk.new).seen ≡ file (other area) (D.view disk.old).seen }
 
     // Once it answered, a crash leaves what is read, which has the new frame.
-    ensures durable { (D.view disk.old).told → OnOk result (Only (D.view disk.new).seen (D.view disk.new).may_leave) }
-    ensures appended { (D.view disk.old).told → IfOk result (λ end. Appended area at payload.now end (D.view disk.old).seen (D.view disk.new).seen) }
+    ensures appended { (D.view disk.old).told → IfOk result (λ end.
+        Appended area at payload.now end (D.view disk.old) (D.view disk.new)) }
     ensures end { IfOk result (λ end. (end ≡ at + 9 + length payload.now) × (end < 2 ^ 63)) }
     ensures fits { length payload.now < 2 ^ 63 }
 
-    ensures fault { IsErrOf result Fault → Rises (D.view disk.old).disk_faults (D.view disk.new).disk_faults }
-    ensures damaged { (a : Area) (p : ℕ) → IsErrOf result (Damaged a p) → ⊥ }
-    ensures say_faults { (D.view disk.new).say_faults ≡ (D.view disk.old).say_faults }
+    ensures cause { IfErr result (HasCause Never (D.view disk.old) (D.view disk.new)) }
+    ensures nothing_done { IsErrOf result Memory → disk.new ≡ disk.old }
 {
     let body = frame_body(alloc, payload)?;
     write_synced(disk, area, at + 1, &body)?;
@@ -86,7 +87,8 @@ fn head_size(len: u64, at: u64) -> u64
 /// Reads the frame behind the gate at this place, or none where that gate is closed. `Damaged` comes
 /// where the gate is open and the frame doesn't lie in the file together with a next gate.
 ///
-/// It asks for the length of the file once, and reads twice at most: what it gives and no more.
+/// It asks for the length of the file once, and reads twice at most: what it gives and no more. Room
+/// for the payload is taken once it is known to lie in the file, so that a damaged length costs none.
 #[tactic(auto, using(crate::proofs::Looks::looking))]
 pub fn next_frame<D: Disk>(
     alloc: Global,
@@ -100,9 +102,12 @@ pub fn next_frame<D: Disk>(
     ensures looks { Looks (D.view disk.old) (D.view disk.new) }
 
     // What is read; a closed gate and a broken frame are found exactly where they are.
-    ensures read { (D.view disk.old).told → IsRead area (file area (D.view disk.old).seen) at result }
-    ensures end { IfOk result (λ found. IfSome found (λ frame. (at < frame.end) × (frame.end < 2 ^ 63))) }
-    ensures fault { IsErrOf result Fault → Rises (D.view disk.old).disk_faults (D.view disk.new).disk_faults }
+    ensures read { (D.view disk.old).told → IfOk result (
+        IsRead (file area (D.view disk.old).seen) at) }
+    ensures end { IfOk result (λ found.
+        IfSome found (λ frame. (at < frame.end) × (frame.end < 2 ^ 63))) }
+    ensures cause { IfErr result (
+        HasCause (BreaksAt area at (D.view disk.old)) (D.view disk.old) (D.view disk.new)) }
 {
     let len = disk.len(area)?;
     let head = read_exact(alloc, disk, area, at, head_size(len, at))?;

@@ -1,6 +1,5 @@
-pub mod Fold
-pub mod Opens
-pub mod Looks
 pub mod Along
-pub mod Starts
 pub mod Appends
+pub mod Causes
+pub mod Opens
+pub mod Starts

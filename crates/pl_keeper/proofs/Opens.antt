@@ -1,116 +1,128 @@
--- What images open to.
-use Rattle.std.proofs.Common.{◌≡◌, ◌<◌, ◌^◌, ⊎_elim, ℕ, ◌+◌, List, [], ◌∷◌, ◌++◌, length, take, drop, get_or, Bool, true, false, Result, Ok, Err, refl, sym, ◌∙◌, ap, arith, append_assoc, length-append}
-use Rattle.std.specs.Prelude.{if◌then◌else◌}
-use Rattle.std.proofs.lemmas.Bool.Decides.{nat_tests}
-use Rattle.std.specs.List.{flat_map}
+-- The batches of two files, by their form.
+use Rattle.std.proofs.Common.{◌≡◌, ◌<◌, ◌≤◌, ⊎_elim, ℕ, List, [], ◌∷◌, ◌++◌, length, take, drop, Bool, true, false, nat_eq, if◌then◌else◌, Result, Ok, Err, refl, sym, ◌∙◌, ap, arith, length-append}
+use Rattle.std.specs.Cmp.Lexicographic.{pointwise}
 use Rattle.std.specs.Int.{to_be_bytes, w64}
+use Rattle.std.proofs.lemmas.List.{take-append-le}
+use Rattle.std.proofs.lemmas.Bool.Decides.{nat_tests}
 use Rattle.pl_base.specs.Image.{Image}
-use Rattle.pl_base.specs.declared.area.Area.TheVariants.{A}
-use Rattle.pl_model.specs.Database.{Database}
-use Rattle.pl_model.specs.Format.{frame_bytes, frames_from, placed, magic, is_open, has_header}
-use Rattle.pl_model.specs.Opening.{fold_read, in_area, opens}
-use Rattle.pl_model.specs.Spelling.{is_whole}
-use Rattle.pl_disk.specs.Disk.{View, Runs, After, Only, IsLawful}
-use Rattle.pl_disk.proofs.Moments.{run_weaker, runs_on}
-use Rattle.pl_frames.specs.Header.{Shut, Laid, MayClose, MayLay, MayOpen}
-use Rattle.pl_frames.proofs.Header.{shut_closed}
-use Rattle.pl_frames.proofs.Walk.{frames_read}
-use Rattle.pl_keeper.specs.Batches.{AreBatches, area_frames, fold_batches}
-use Rattle.pl_keeper.specs.Store.{IsOpen, IsStore, OpensTo}
-use Rattle.pl_keeper.specs.declared.batch.Batch.{Batch}
-use Rattle.pl_keeper.proofs.Fold.{decoded_folds}
+use Rattle.pl_base.specs.declared.area.Area.TheVariants.{A, B}
+use Rattle.pl_codec.specs.Spelling.{operation_of}
+use Rattle.pl_frames.specs.Format.{Frames, frames_from, is_open, has_header, magic}
+use Rattle.pl_frames.specs.Header.{Laid}
+use Rattle.pl_frames.specs.Lent.{frames_read}
+use Rattle.pl_keeper.specs.Batches.{Stored, area_batches, beside, batches}
+use Rattle.pl_keeper.specs.Reading.{AreRead}
+use Rattle.pl_keeper.specs.Store.{Has, IsUsed, all_stored}
+use Rattle.pl_keeper.specs.declared.opening.Found.{Found}
 
--- by what `area_frames` looks at
-pub closed_area : (file : List ℕ) → is_open file ≡ false → area_frames file ≡ Ok []
+-- one file
+closed_area : (file : List ℕ) → is_open file ≡ false → area_batches file ≡ Ok []
 closed_area file closed = rw closed refl
 
-pub damaged_header : (file : List ℕ) → is_open file ≡ true → has_header file ≡ false → area_frames file ≡ Err 0
-damaged_header file is_open has = rw (is_open, has) refl
+headless_area : (file : List ℕ) → is_open file ≡ true → has_header file ≡ false → area_batches file ≡ Err 0
+headless_area file is_open none = rw (is_open, none) refl
 
-pub framed_area : (file : List ℕ) (r : Result (List (ℕ × List ℕ)) ℕ) → is_open file ≡ true → has_header file ≡ true → frames_from is_whole (length file) file 17 ≡ r → area_frames file ≡ r
+framed_area : (file : List ℕ) (r : Result (List Stored) ℕ) → is_open file ≡ true → has_header file ≡ true → frames_from operation_of (length file) file 17 ≡ r → area_batches file ≡ r
 framed_area file r is_open has is = rw (is_open, has) is
 
--- what a file stands for, by its frames
-fold_within : (a b : Bool) (r : Result (List (ℕ × List ℕ)) ℕ) → (let s : Result Database ℕ = if a then (if b then fold_read r else Err 0) else Ok [] in s) ≡ fold_read (if a then (if b then r else Err 0) else Ok [])
-fold_within true true r = refl
-fold_within true false r = refl
-fold_within false b r = refl
+-- both
+of_areas : (c : Image) (r : Result (List Stored) ℕ) (b : Bool) → area_batches c.a ≡ r → is_open c.b ≡ b → batches c ≡ beside r b
+unfolding batches
+of_areas c r b is_a is_b = (λ i. beside (is_a i) (is_b i))
 
-pub opens_area : (c : Image) (r : Result (List (ℕ × List ℕ)) ℕ) → area_frames c.a ≡ r → opens c ≡ in_area A (fold_read r)
-unfolding opens
-opens_area c r is = ap (λ (s : Result Database ℕ). in_area A s) (fold_within (is_open c.a) (has_header c.a) (frames_from is_whole (length c.a) c.a 17) ∙ ap fold_read is)
+pub none_stored : (c : Image) → is_open c.a ≡ false → is_open c.b ≡ false → batches c ≡ Ok []
+none_stored c closed_a closed_b = of_areas c (Ok []) false (closed_area c.a closed_a) closed_b
 
-pub opens_batches : (c : Image) (batches : List Batch) → AreBatches c.a batches → opens c ≡ fold_batches A batches
-opens_batches c batches is = opens_area c (Ok is.0) is.1 ∙ ap (λ (s : Result Database ℕ). in_area A s) (decoded_folds is.0 batches [] is.2)
+pub not_used : (c : Image) → is_open c.a ≡ false → is_open c.b ≡ false → IsUsed c → ⊥
+not_used c closed_a closed_b used =
+    ⊎_elim (λ opened. (let no : true ≡ false = sym opened ∙ closed_a in cc)) (λ stored. stored (none_stored c closed_a closed_b)) used
 
-pub closed_opens : (c : Image) → is_open c.a ≡ false → opens c ≡ Ok []
-closed_opens c closed = opens_area c (Ok []) (closed_area c.a closed)
+pub headless : (c : Image) → is_open c.a ≡ true → has_header c.a ≡ false → batches c ≡ Err (record { area = A; at = 0 })
+headless c opened none = of_areas c (Err 0) (is_open c.b) (headless_area c.a opened none) refl
 
--- an open area
+pub malformed : (c : Image) (at : ℕ) → is_open c.a ≡ true → has_header c.a ≡ true → frames_from operation_of (length c.a) c.a 17 ≡ Err at → batches c ≡ Err (record { area = A; at = at })
+malformed c at opened has is = of_areas c (Err at) (is_open c.b) (framed_area c.a (Err at) opened has is) refl
+
+pub beside_nothing : (c : Image) → is_open c.a ≡ false → is_open c.b ≡ true → batches c ≡ Err (record { area = B; at = 0 })
+beside_nothing c closed_a open_b = of_areas c (Ok []) true (closed_area c.a closed_a) open_b
+
+pub beside_frames : (c : Image) (list : List Stored) → is_open c.a ≡ true → has_header c.a ≡ true → frames_from operation_of (length c.a) c.a 17 ≡ Ok list → is_open c.b ≡ true → batches c ≡ Err (record { area = B; at = 0 })
+beside_frames c list opened has is open_b = of_areas c (Ok list) true (framed_area c.a (Ok list) opened has is) open_b
+
+pub framed : (c : Image) (list : List Stored) → is_open c.a ≡ true → has_header c.a ≡ true → frames_from operation_of (length c.a) c.a 17 ≡ Ok list → is_open c.b ≡ false → batches c ≡ Ok list
+framed c list opened has is closed_b = of_areas c (Ok list) false (framed_area c.a (Ok list) opened has is) closed_b
+
+-- what batches say of the areas
+pub of_batches : (c : Image) (list : List Stored) → batches c ≡ Ok list → is_open c.a ≡ true → (has_header c.a ≡ true) × (frames_from operation_of (length c.a) c.a 17 ≡ Ok list) × (is_open c.b ≡ false)
+unfolding batches
+of_batches c list is opened = by_header (has_header c.a) (is_open c.b) refl refl (sym at_area ∙ is)
+  where
+    frames : Result (List Stored) ℕ
+    frames = frames_from operation_of (length c.a) c.a 17
+
+    at_area : beside (area_batches c.a) (is_open c.b) ≡ beside (let r : Result (List Stored) ℕ = if has_header c.a then frames else Err 0 in r) (is_open c.b)
+    at_area = rw opened refl
+
+    within : (r : Result (List Stored) ℕ) (b : Bool) → beside r b ≡ Ok list → (r ≡ Ok list) × (b ≡ false)
+    within (Err at) b h = absurd (cc)
+    within (Ok xs) true h = absurd (cc)
+    within (Ok xs) false h = ((let same : xs ≡ list = cc in ap (λ (l : List Stored). let r : Result (List Stored) ℕ = Ok l in r) same), refl)
+
+    by_header : (h b : Bool) → has_header c.a ≡ h → is_open c.b ≡ b → beside (let r : Result (List Stored) ℕ = if has_header c.a then frames else Err 0 in r) (is_open c.b) ≡ Ok list
+        → (has_header c.a ≡ true) × (frames ≡ Ok list) × (is_open c.b ≡ false)
+    by_header true b has is_b h = let both = within frames (is_open c.b) ((rw has at h)) in (has, both.0, both.1)
+    by_header false b has is_b h = absurd (let both = within (Err 0) (is_open c.b) (rw has at h) in cc)
+
+-- an open area whose frames were read
+pub has_read : (c : Image) (read : Found) → is_open c.a ≡ true → has_header c.a ≡ true → AreRead c.a read → is_open c.b ≡ false → Has (all_stored read.batches.items) read.end c
+has_read c read opened has is closed_b = record {
+  batches = framed c (all_stored read.batches.items) opened has is.read closed_b;
+  opened = opened;
+  head = take 17 c.a;
+  payloads = is.payloads;
+  frames = is.frames;
+}
+
+-- an open area of these frames
 long_open : (x : ℕ) (rest : List ℕ) → 0 < length rest → x ≡ 1 → is_open (x ∷ rest) ≡ true
 long_open x rest long one = grind (arith, nat_tests)
 
-headed : (generation rest : List ℕ) → length generation ≡ 8 → 0 < length rest → has_header ((1 ∷ (magic ++ generation)) ++ rest) ≡ true
+pub headed : (generation rest : List ℕ) → length generation ≡ 8 → 0 < length rest → has_header ((1 ∷ (magic ++ generation)) ++ rest) ≡ true
 headed generation rest eight long = let n = length-append generation rest in grind (arith, nat_tests, n)
 
-pub open_opens : (c : Image) (at : ℕ) (db : Database) → IsOpen c.a at db → at < 2 ^ 64 + 17 → opens c ≡ Ok db
-open_opens c at db is small =
-    let f = is.frames in
-    let rest = flat_map frame_bytes is.list ++ f.gate ∷ f.rest in
-    let eight : length is.generation ≡ 8 = omega (arith, f.header) in
-    let long : 0 < length rest = omega (arith, length-append (flat_map frame_bytes is.list) (f.gate ∷ f.rest)) in
-    let split : c.a ≡ (1 ∷ (magic ++ is.generation)) ++ rest = f.split ∙ append_assoc (1 ∷ (magic ++ is.generation)) (flat_map frame_bytes is.list) (f.gate ∷ f.rest) in
-    let open_is : is_open c.a ≡ true = ap is_open split ∙ long_open 1 (magic ++ is.generation ++ rest) (omega (arith, length-append (magic ++ is.generation) rest)) refl in
-    let has : has_header c.a ≡ true = ap has_header split ∙ headed is.generation rest eight long in
-    opens_area c (Ok (placed 17 is.list)) (framed_area c.a (Ok (placed 17 is.list)) open_is has (frames_read is_whole c.a (1 ∷ (magic ++ is.generation)) is.list at f (omega (arith, small)) is.pass))
-    ∙ ap (λ (s : Result Database ℕ). in_area A s) is.folds
-
 -- a new area
-pub new_area : (d : List ℕ) (c : List ℕ) → Laid 0 d → c ≡ 1 ∷ drop 1 d → IsOpen c 17 []
-new_area d c laid is = record {
-  generation = to_be_bytes w64 0;
-  list = [];
-  frames = record {
-    gate = 0;
-    rest = laid.rest;
-    split = is ∙ ap (λ (l : List ℕ). 1 ∷ drop 1 l) laid.split;
-    shut = omega arith;
-    header = refl;
-    place = refl;
-  };
-  pass = tt;
-  folds = refl;
-}
+pub has_new : (d c : Image) → Laid 0 d.a → c.a ≡ 1 ∷ drop 1 d.a → is_open c.b ≡ false → Has [] 17 c
+has_new d c laid is closed_b =
+    let generation = to_be_bytes w64 0 in
+    let split : c.a ≡ (1 ∷ (magic ++ generation)) ++ 0 ∷ laid.rest = is ∙ ap (λ (l : List ℕ). 1 ∷ drop 1 l) laid.split in
+    let opened : is_open c.a ≡ true = ap is_open split ∙ long_open 1 (magic ++ generation ++ 0 ∷ laid.rest) (omega arith) refl in
+    let has : has_header c.a ≡ true = ap has_header split ∙ headed generation (0 ∷ laid.rest) refl (omega arith) in
+    let frames : Frames c.a (1 ∷ (magic ++ generation)) [] 17 = record { gate = 0; rest = laid.rest; split = split; shut = omega arith; header = refl; place = refl } in
+    record {
+      batches = framed c [] opened has (frames_read operation_of c.a (1 ∷ (magic ++ generation)) [] 17 frames (omega arith)) closed_b;
+      opened = opened;
+      head = 1 ∷ (magic ++ generation);
+      payloads = [];
+      frames = frames;
+    }
 
--- the three calls of a new store
-pub closes : (a b : View) → (a.told → Only a.seen a.may_leave) → (a.told → is_open a.seen.a ≡ false) → Runs a b (λ p c. (p ≡ a.printed) × After (MayClose A) a.may_leave c) → Runs a b (OpensTo a [])
-closes a b only closed run = run_weaker a b _ (OpensTo a []) run (λ told p c is. (
-  is.0,
-  closed_opens c
-      (⊎_elim (λ same. ap is_open (same ∙ ap (λ (i : Image). i.a) (only told is.1.0 is.1.1)) ∙ closed told) (λ now. now) is.1.2.change),
-))
+-- files of the same header
+pub same_open : (d c head rest rest' : List ℕ) → length head ≡ 17 → d ≡ head ++ rest → c ≡ head ++ rest' → 0 < length rest' → (is_open d ≡ true → is_open c ≡ true) × (has_header d ≡ true → has_header c ≡ true)
+same_open d c [] rest rest' long is_d is_c some = absurd (omega (arith, long))
+same_open d c (x ∷ head) rest rest' long is_d is_c some =
+    let word : take 8 (head ++ rest) ≡ take 8 (head ++ rest') = same_front head rest rest' (omega (arith, long)) in (
+      λ opened. ap is_open is_c ∙ long_open x (head ++ rest') (omega (arith, length-append head rest')) (first_one x (head ++ rest) (sym (ap is_open is_d) ∙ opened)),
+      λ has. ap has_header is_c ∙ has_word x (head ++ rest') (omega (arith, some, long, length-append head rest')) (ap (λ (l : List ℕ). pointwise nat_eq l magic) (sym word) ∙ word_of x (head ++ rest) (sym (ap has_header is_d) ∙ has)),
+    )
+  where
+    first_one : (x : ℕ) (rest : List ℕ) → is_open (x ∷ rest) ≡ true → x ≡ 1
+    first_one x rest is = grind (arith, nat_tests)
 
-shut_laying : (d c : List ℕ) → take 1 c ≡ take 1 d → Shut d → is_open c ≡ false
-shut_laying d [] is was = refl
-shut_laying d (x ∷ c) is was = shut_closed (x ∷ c) (record { gate = x; rest = c; split = refl; shut = λ one. was.shut (sym (ap (λ (l : List ℕ). get_or l 0 0) (is ∙ ap (λ (l : List ℕ). take 1 l) was.split)) ∙ one) })
+    word_of : (x : ℕ) (rest : List ℕ) → has_header (x ∷ rest) ≡ true → pointwise nat_eq (take 8 rest) magic ≡ true
+    word_of x rest is = grind (arith, nat_tests)
 
-pub lays : (a b : View) → (a.told → (c : Image) → a.may_leave c → Shut c.a) → Runs a b (λ p c. (p ≡ a.printed) × After (MayLay A) a.may_leave c) → Runs a b (OpensTo a [])
-lays a b shut run = run_weaker a b _ (OpensTo a []) run (λ told p c is. (is.0, closed_opens c (shut_laying is.1.0.a c.a is.1.2.gate (shut told is.1.0 is.1.1))))
+    has_word : (x : ℕ) (rest : List ℕ) → 17 ≤ length rest → pointwise nat_eq (take 8 rest) magic ≡ true → has_header (x ∷ rest) ≡ true
+    has_word x rest long is = grind (arith, nat_tests)
 
-pub opens_new : (a b : View) → (a.told → (c : Image) → a.may_leave c → Shut c.a × Laid 0 c.a) → Runs a b (λ p c. (p ≡ a.printed) × After (MayOpen A) a.may_leave c) → Runs a b (OpensTo a [])
-opens_new a b laid run = run_weaker a b _ (OpensTo a []) run (λ told p c is. (
-  is.0,
-  ⊎_elim (λ shut. closed_opens c (shut_closed c.a shut)) (λ now. open_opens c 17 [] (new_area is.1.0.a c.a (laid told is.1.0 is.1.1).1 now) (omega arith)) is.1.2.change,
-))
-
-pub then_new : (a b d : View) → (a.told → b.printed ≡ a.printed) → Runs a b (OpensTo a []) → Runs b d (OpensTo b []) → Runs a d (OpensTo a [])
-then_new a b d printed first second = runs_on a b d _ _ (OpensTo a []) first second (λ told p c is. is) (λ told p c is. (is.0 ∙ printed told, is.1))
-
-laid_open : (d c : List ℕ) → Laid 0 d → c ≡ 1 ∷ drop 1 d → Laid 0 c
-laid_open d c laid is = record { gate = 1; rest = laid.rest; split = is ∙ ap (λ (l : List ℕ). 1 ∷ drop 1 l) laid.split }
-
-pub new_laid : (a : View) (left : Image → Type 0) → IsLawful a → ((c : Image) → a.may_leave c → Shut c.a × Laid 0 c.a) → ((c : Image) → left c → c.a ≡ 1 ∷ drop 1 a.seen.a) → (c : Image) → left c → Laid 0 c.a
-new_laid a left lawful laid is c here = laid_open a.seen.a c.a (laid a.seen lawful.reads).1 (is c here)
-
-pub new_stored : (a : View) (left : Image → Type 0) → IsLawful a → ((c : Image) → a.may_leave c → Shut c.a × Laid 0 c.a) → ((c : Image) → left c → c.a ≡ 1 ∷ drop 1 a.seen.a) → IsStore left 17 []
-new_stored a left lawful laid is c here = new_area a.seen.a c.a (laid a.seen lawful.reads).1 (is c here)
+    same_front : (head rest rest' : List ℕ) → 8 ≤ length head → take 8 (head ++ rest) ≡ take 8 (head ++ rest')
+    same_front head rest rest' long = take-append-le 8 head rest long ∙ sym (take-append-le 8 head rest' long)

@@ -1,132 +1,169 @@
 -- The answers of the calls that open a store.
-use Rattle.std.proofs.Common.{◌≡◌, ◌<◌, ◌^◌, inl, inr, ⊎_elim, ℕ, List, [], ◌∷◌, ◌++◌, length, take, drop, get_or, true, false, Option, Result, Ok, Err, refl, sym, ◌∙◌, ap, subst, arith, append_assoc, length-append, nat_eq}
-use Rattle.std.specs.Prelude.{IfOk, IsErrOf}
-use Rattle.std.specs.Result.{IsErrAnd}
-use Rattle.std.specs.Cmp.Lexicographic.{pointwise}
-use Rattle.std.proofs.Math.Seq.{take-add}
-use Rattle.std.proofs.lemmas.Bool.Decides.{Decides-eqb, nat_tests}
-use Rattle.std.proofs.lemmas.List.{append-nil, append_cancel_left}
-use Rattle.std.proofs.lemmas.Slice.Eq.{slice_eq-Decides}
+use Rattle.std.proofs.Common.{◌≡◌, ⊎_elim, ℕ, List, [], ◌∷◌, ◌++◌, length, take, drop, get_or, true, false, Result, Ok, Err, refl, sym, ◌∙◌, ap, subst}
 use Rattle.pl_base.specs.Image.{Image}
 use Rattle.pl_base.specs.declared.area.Area.{Area}
-use Rattle.pl_base.specs.declared.area.Area.TheVariants.{A}
-use Rattle.pl_model.specs.Database.{Database}
-use Rattle.pl_model.specs.Format.{Frames, placed, magic, is_open, has_header}
-use Rattle.pl_model.specs.Opening.{Damage, in_area, opens}
-use Rattle.pl_model.specs.Spelling.{is_whole}
-use Rattle.pl_disk.specs.Disk.{View, Runs, Only, IsLawful, Looks, Settled}
-use Rattle.pl_disk.proofs.Moments.{runs_on, each}
-use Rattle.pl_frames.specs.Header.{IsInspected}
-use Rattle.pl_frames.specs.declared.fail.FrameFail.{FrameFail}
-use Rattle.pl_frames.specs.declared.fail.FrameFail.TheVariants.{Fault, Damaged, Memory}
-use Rattle.pl_frames.proofs.Walk.{frames_read}
-use Rattle.pl_keeper.specs.Batches.{area_frames, apply_batches, fold_batches}
-use Rattle.pl_keeper.specs.Store.{IsOpen, IsStore, OpensSame, OpensTo}
-use Rattle.pl_keeper.specs.Reading.{AreRead, IsRead, IsFound}
+use Rattle.pl_base.specs.declared.area.Area.TheVariants.{A, B}
+use Rattle.pl_codec.specs.Spelling.{operation_of}
+use Rattle.pl_disk.specs.Disk.{View, After, Only, IsLawful, Looks, Settled, Writes}
+use Rattle.pl_disk.specs.Lent.{writes_weaker, writes_on, looked_writes, after_writes, run_weaker, settled_since}
+use Rattle.pl_frames.specs.Format.{is_open, has_header, frames_from}
+use Rattle.pl_frames.specs.Header.{Shut, Laid, Leaves, MayClose, MayLay, MayOpen, LacksHeader}
+use Rattle.pl_frames.specs.Lent.{shut_closed, not_one_closed}
+use Rattle.pl_keeper.specs.Batches.{Stored, Damage, batches}
+use Rattle.pl_keeper.specs.Reading.{AreRead, BreaksIn, IsOpenAt, Opening, Opened}
+use Rattle.pl_keeper.specs.Store.{Has, IsStore, DamagedAt, HasSame, all_stored}
 use Rattle.pl_keeper.specs.declared.batch.Batch.{Batch}
 use Rattle.pl_keeper.specs.declared.opening.Found.{Found}
-use Rattle.pl_keeper.proofs.Fold.{decoded_folds}
-use Rattle.pl_keeper.proofs.Opens.{damaged_header, framed_area, opens_area, closed_opens}
+use Rattle.pl_keeper.proofs.Opens.{none_stored, headless, malformed, beside_nothing, beside_frames, has_read, has_new}
 
-pub err_found : (file : List ℕ) (r : Result Found FrameFail) (e : FrameFail) → IsErrAnd r (λ x. x ≡ e) → (let r : Result Found FrameFail = Err e in IsFound file r) → IsFound file r
-err_found file (Ok found) e is was = absurd is
-err_found file (Err x) e is was = subst (λ (y : FrameFail). let r : Result Found FrameFail = Err y in IsFound file r) (sym is) was
+-- two closed files, of which area B is this one
+pub record IsEmpty (b : List ℕ) (c : Image) : Type 0 where
+  pub batches : batches c ≡ Ok []
+  pub area_b : c.b ≡ b
 
-pub inspect_failed : (file : List ℕ) (e : FrameFail) → (let r : Result (Option ℕ) FrameFail = Err e in IsInspected A file r) → (let r : Result Found FrameFail = Err e in IsFound file r)
-inspect_failed file Fault is = tt
-inspect_failed file (Damaged area place) is = (is.0, damaged_header file is.2 is.3 ∙ ap (λ (k : ℕ). let r : Result (List (ℕ × List ℕ)) ℕ = Err k in r) (sym is.1))
-inspect_failed file Memory is = tt
+closed_both : (b : List ℕ) (c : Image) → is_open b ≡ false → is_open c.a ≡ false → c.b ≡ b → IsEmpty b c
+closed_both b c closed_b closed_a same = record { batches = none_stored c closed_a (ap is_open same ∙ closed_b); area_b = same }
 
-pub same_err : {T : Type 0} (r : Result T FrameFail) (e f : FrameFail) → IsErrAnd r (λ x. x ≡ e) → IsErrOf r f → e ≡ f
-same_err (Ok found) e f is of = absurd is
-same_err (Err x) e f is of = cc
+shut_laying : (d c : List ℕ) → take 1 c ≡ take 1 d → Shut d → is_open c ≡ false
+shut_laying d [] is was = refl
+shut_laying d (x ∷ c) is was = not_one_closed x c (λ one. was.shut (sym (ap (λ (l : List ℕ). get_or l 0 0) (is ∙ ap (λ (l : List ℕ). take 1 l) was.split)) ∙ one))
 
--- an area that doesn't open, as the two files
-pub found_damaged : (seen : Image) (e : FrameFail) → (let r : Result Found FrameFail = Err e in IsFound seen.a r) → (area : Area) (at : ℕ) → e ≡ Damaged area at → opens seen ≡ Err (record { area = area; at = at })
-found_damaged seen e is area at same =
-    let here = subst (λ (y : FrameFail). let r : Result Found FrameFail = Err y in IsFound seen.a r) same is in
-    opens_area seen (Err at) here.1 ∙ (λ i. let r : Result Database Damage = Err (record { area = sym here.0 i; at = at }) in r)
+-- the three calls of a new store, beside a closed area B
+module _ (b : List ℕ) where
+  pub closes : (a d : View) → (a.told → is_open b ≡ false) → (a.told → (c : Image) → a.may_leave c → (is_open c.a ≡ false) × (c.b ≡ b)) → Writes a d (After (MayClose A) a.may_leave) → Writes a d (IsEmpty b)
+  closes a d closed_b closed run = writes_weaker a d _ (IsEmpty b) run (λ told c is.
+      let was = closed told is.0 is.1 in
+      closed_both b c (closed_b told) (⊎_elim (λ same. ap is_open same ∙ was.0) (λ now. now) is.2.change) (is.2.rest ∙ was.1))
 
-module _ (file : List ℕ) (open_is : is_open file ≡ true) (has : has_header file ≡ true) where
-  whole_area : (batches : List Batch) (end : ℕ) (is : AreRead file batches end) → end < 2 ^ 63 → area_frames file ≡ Ok (placed 17 is.list)
-  whole_area batches end is small = framed_area file (Ok (placed 17 is.list)) open_is has (frames_read is_whole file (take 17 file) is.list end is.frames (omega (arith, small)) is.pass)
+  pub lays : (a d : View) → (a.told → is_open b ≡ false) → (a.told → Leaves A Shut a) → (a.told → Leaves B (λ f. f ≡ b) a) → Writes a d (After (MayLay A) a.may_leave) → Writes a d (IsEmpty b)
+  lays a d closed_b shut beside run = writes_weaker a d _ (IsEmpty b) run (λ told c is.
+      closed_both b c (closed_b told) (shut_laying is.0.a c.a is.2.gate (shut told is.0 is.1)) (is.2.rest ∙ beside told is.0 is.1))
 
-  pub read_found : (r : Result Found FrameFail) → IfOk r (λ found. found.end < 2 ^ 63) → IsRead file r → IsFound file r
-  read_found (Ok found) small is = (placed 17 is.list, whole_area found.batches.items found.end is small, is.same)
-  read_found (Err Fault) small is = tt
-  read_found (Err (Damaged area at)) small is = (is.0, framed_area file (Err at) open_is has is.1)
-  read_found (Err Memory) small is = tt
+  opened : (d c : Image) → is_open b ≡ false → Laid 0 d.a → c.a ≡ 1 ∷ drop 1 d.a → c.b ≡ b → Has [] 17 c
+  opened d c closed_b laid is same = has_new d c laid is (ap is_open same ∙ closed_b)
 
-  head_is : (file : List ℕ) → is_open file ≡ true → has_header file ≡ true → take 17 file ≡ 1 ∷ (magic ++ take 8 (drop 9 file))
-  head_is [] is has_it = absurd (let no : is_open [] ≡ false = refl in cc)
-  head_is (x ∷ rest) is has_it =
-      let one : x ≡ 1 = first_one x rest is in
-      let word : take 8 rest ≡ magic = (slice_eq-Decides Decides-eqb (take 8 rest) magic (pointwise nat_eq (take 8 rest) magic) refl).0 (word_test x rest has_it) in
-      let two : take 16 rest ≡ take 8 rest ++ take 8 (drop 8 rest) = take-add 8 8 rest in
-      ap (λ (l : List ℕ). x ∷ l) (two ∙ ap (λ (l : List ℕ). l ++ take 8 (drop 8 rest)) word) ∙ ap (λ (k : ℕ). k ∷ (magic ++ take 8 (drop 8 rest))) one
-    where
-      first_one : (x : ℕ) (rest : List ℕ) → is_open (x ∷ rest) ≡ true → x ≡ 1
-      first_one x rest is = grind (arith, nat_tests)
+  pub opens : (a d : View) → (a.told → is_open b ≡ false) → (a.told → Leaves A (λ f. Shut f × Laid 0 f) a) → (a.told → Leaves B (λ f. f ≡ b) a) → Writes a d (After (MayOpen A) a.may_leave) → Writes a d (IsEmpty b)
+  opens a d closed_b laid beside run = writes_weaker a d _ (IsEmpty b) run (λ told c is.
+      let same = is.2.rest ∙ beside told is.0 is.1 in
+      ⊎_elim (λ shut. closed_both b c (closed_b told) (shut_closed c.a shut) same)
+      (λ now. record { batches = (opened is.0 c (closed_b told) (laid told is.0 is.1).1 now same).batches; area_b = same }) is.2.change)
 
-      word_test : (x : ℕ) (rest : List ℕ) → has_header (x ∷ rest) ≡ true → pointwise nat_eq (take 8 rest) magic ≡ true
-      word_test x rest is = grind (arith, nat_tests)
+  pub new_stored : (a d : View) → is_open b ≡ false → IsLawful a → Leaves A (λ f. Shut f × Laid 0 f) a → Leaves B (λ f. f ≡ b) d → Leaves A (λ f. f ≡ 1 ∷ drop 1 a.seen.a) d → IsStore d.may_leave 17 []
+  new_stored a d closed_b lawful laid beside is c left = opened a.seen c closed_b (laid a.seen lawful.reads).1 (is c left) (beside c left)
 
-  pub read_open : (batches : List Batch) (end : ℕ) (db : Database) → AreRead file batches end → fold_batches A batches ≡ Ok db → IsOpen file end db
-  read_open batches end db read is = record {
-    generation = take 8 (drop 9 file);
-    list = read.list;
-    frames = subst (λ (h : List ℕ). Frames file h read.list end) (head_is file open_is has) read.frames;
-    pass = read.pass;
-    folds = decoded_folds (placed 17 read.list) batches [] read.same ∙ within (apply_batches batches []) is;
-  }
-    where
-      within : (r : Result Database ℕ) → in_area A r ≡ Ok db → r ≡ Ok db
-      within (Ok d) h = cc
-      within (Err at) h = absurd (cc)
+  -- area B stays, from a settled store on
+  pub still_beside : (a d : View) → IsLawful a → IsLawful d → a.told → (Leaves B (λ f. f ≡ b) a) → Writes a d (IsEmpty b) → Leaves B (λ f. f ≡ b) d
+  still_beside a d lawful lawful' told beside run =
+      after_writes a d (λ c. c.b ≡ b) lawful lawful' told (writes_weaker a d _ (λ c. c.b ≡ b) run (λ t c is. is.area_b)) beside
 
--- whole runs
-pub looks_same : (a d : View) → (a.told → Only a.seen a.may_leave) → Looks a d → Runs a d (OpensSame a)
-looks_same a d only looks = record {
-  named = looks.named;
-  told = looks.told;
-  told_before = looks.told_before;
-  disk_faults = looks.disk_faults;
-  say_faults = omega (arith, looks.say_faults);
-  synced = λ t. ([], (looks.images t).synced ∙ sym (append-nil a.synced));
-  time = λ t. record {
-    later = (looks.time t).later;
-    nothing_else = λ k p c le left. ⊎_elim inl (λ is. inr (is.0, ap opens (only t c is.1))) ((looks.time t).nothing_else k p c le left);
-    keeps = (looks.time t).keeps;
-  };
+  pub then_empty : (a m d : View) → Writes a m (IsEmpty b) → Writes m d (IsEmpty b) → Writes a d (IsEmpty b)
+  then_empty a m d first second = writes_on a m d _ _ (IsEmpty b) first second (λ told c is. is) (λ told c is. is)
+
+settled_closed : (a : View) → Only a.seen a.may_leave → is_open a.seen.a ≡ false → (c : Image) → a.may_leave c → (is_open c.a ≡ false) × (c.b ≡ a.seen.b)
+settled_closed a only closed_a c left = let same = only c left in (ap (λ (i : Image). is_open i.a) same ∙ closed_a, ap (λ (i : Image). i.b) same)
+
+-- the runs up to the end of each of the three
+pub first_call : (a m : View) → (a.told → Only a.seen a.may_leave) → (a.told → is_open a.seen.a ≡ false) → (a.told → is_open a.seen.b ≡ false) → Writes a m (After (MayClose A) a.may_leave) → Writes a m (IsEmpty a.seen.b)
+first_call a m only closed_a closed_b run = closes a.seen.b a m closed_b (λ told. settled_closed a (only told) (closed_a told)) run
+
+pub beside_all : (a m : View) → (a.told → IsLawful a) → (m.told → IsLawful m) → (a.told → Only a.seen a.may_leave) → Writes a m (IsEmpty a.seen.b) → m.told → Leaves B (λ f. f ≡ a.seen.b) m
+beside_all a m lawful lawful' only run told =
+    let before = run.moments.continues.told_before told in
+    still_beside a.seen.b a m (lawful before) (lawful' told) before (λ c left. ap (λ (i : Image). i.b) (only before c left)) run
+
+pub second_call : (a m n : View) → (a.told → IsLawful a) → (m.told → IsLawful m) → (a.told → Only a.seen a.may_leave) → (a.told → is_open a.seen.b ≡ false) → Writes a m (IsEmpty a.seen.b)
+    → (a.told → Leaves A Shut m) → Writes m n (After (MayLay A) m.may_leave) → Writes a n (IsEmpty a.seen.b)
+second_call a m n lawful lawful' only closed_b first shut run =
+    let before = first.moments.continues.told_before in
+    then_empty a.seen.b a m n first (lays a.seen.b m n (λ t. closed_b (before t)) (λ t. shut (before t)) (beside_all a m lawful lawful' only first) run)
+
+pub third_call : (a m d : View) → (a.told → IsLawful a) → (m.told → IsLawful m) → (a.told → Only a.seen a.may_leave) → (a.told → is_open a.seen.b ≡ false) → Writes a m (IsEmpty a.seen.b)
+    → (a.told → Leaves A (λ f. Shut f × Laid 0 f) m) → Writes m d (After (MayOpen A) m.may_leave) → Writes a d (IsEmpty a.seen.b)
+third_call a m d lawful lawful' only closed_b first laid run =
+    let before = first.moments.continues.told_before in
+    then_empty a.seen.b a m d first (opens a.seen.b m d (λ t. closed_b (before t)) (λ t. laid (before t)) (beside_all a m lawful lawful' only first) run)
+
+pub from_empty : (a d : View) → (a.told → is_open a.seen.a ≡ false) → (a.told → is_open a.seen.b ≡ false) → Writes a d (IsEmpty a.seen.b) → Writes a d (Opening a)
+from_empty a d closed_a closed_b run = writes_weaker a d _ (Opening a) run (λ told c is. (is.batches ∙ sym (none_stored a.seen (closed_a told) (closed_b told)), is.area_b))
+
+laid_open : (d c : List ℕ) → Laid 0 d → c ≡ 1 ∷ drop 1 d → Laid 0 c
+laid_open d c laid is = record { gate = 1; rest = laid.rest; split = is ∙ ap (λ (l : List ℕ). 1 ∷ drop 1 l) laid.split }
+
+pub new_laid : (a d : View) → IsLawful a → Leaves A (λ f. Shut f × Laid 0 f) a → Leaves A (λ f. f ≡ 1 ∷ drop 1 a.seen.a) d → Leaves A (Laid 0) d
+new_laid a d lawful laid is c here = laid_open a.seen.a c.a (laid a.seen lawful.reads).1 (is c here)
+
+-- a settled store that is only read
+pub opening_looks : (a d : View) → (a.told → Only a.seen a.may_leave) → Looks a d → Writes a d (Opening a)
+opening_looks a d only looks = writes_weaker a d _ (Opening a) (looked_writes a d looks) (λ told c is. (ap batches (only told c is), ap (λ (i : Image). i.b) (only told c is)))
+
+pub looks_then_new : (a m d : View) → (a.told → Only a.seen a.may_leave) → Looks a m → Writes m d (Opening m) → Writes a d (Opening a)
+looks_then_new a m d only looks run = writes_on a m d _ _ (Opening a) (opening_looks a m only looks) run (λ told c is. is)
+    (λ told c is. let seen = (looks.images told).seen in (is.0 ∙ ap batches seen, is.1 ∙ ap (λ (i : Image). i.b) seen))
+
+pub still_only : (a m : View) → Looks a m → (a.told → Only a.seen a.may_leave) → m.told → Only m.seen m.may_leave
+still_only a m looks only told c left =
+    let before = looks.continues.told_before told in
+    only before c ((looks.images before).crash c left) ∙ sym (looks.images before).seen
+
+-- the damage, as that of the files that were read
+place : {x y : Area} {m n : ℕ} → x ≡ y → m ≡ n → (let r : Result (List Stored) Damage = Err (record { area = x; at = m }) in r) ≡ Err (record { area = y; at = n })
+place p q = λ i. Err (record { area = p i; at = q i })
+
+pub headless_damage : (v : View) (area : Area) (at : ℕ) → LacksHeader A v area at → DamagedAt v area at
+headless_damage v area at is told = let it = is told in headless v.seen it.2 it.3 ∙ place (sym it.0) (sym it.1)
+
+-- the same of what a look found after another
+seen_damage : (a m : View) (area : Area) (at : ℕ) → Looks a m → a.told → batches m.seen ≡ Err (record { area = area; at = at }) → batches a.seen ≡ Err (record { area = area; at = at })
+seen_damage a m area at looks told is = ap batches (sym (looks.images told).seen) ∙ is
+
+pub frames_damage : (a m : View) → Looks a m → (a.told → (is_open a.seen.a ≡ true) × (has_header a.seen.a ≡ true)) → (area : Area) (at : ℕ) → BreaksIn m area at → DamagedAt a area at
+frames_damage a m looks has area at is told =
+    let it = is (looks.continues.told told) in
+    let seen = (looks.images told).seen in
+    let form = subst (λ (i : Image). frames_from operation_of (length i.a) i.a 17 ≡ Err at) seen it.1 in
+    malformed a.seen at (has told).0 (has told).1 form ∙ place (sym it.0) refl
+
+open_b : (a m : View) → Looks a m → a.told → (area : Area) (at : ℕ) → IsOpenAt B m area at → (area ≡ B) × (at ≡ 0) × (is_open a.seen.b ≡ true)
+open_b a m looks told area at is =
+    let it = is (looks.continues.told told) in
+    (it.0, it.1, ap (λ (i : Image). is_open i.b) (sym (looks.images told).seen) ∙ it.2)
+
+pub beside_closed : (a m : View) → Looks a m → (a.told → is_open a.seen.a ≡ false) → (area : Area) (at : ℕ) → IsOpenAt B m area at → DamagedAt a area at
+beside_closed a m looks closed area at is told =
+    let it = open_b a m looks told area at is in
+    beside_nothing a.seen (closed told) it.2 ∙ place (sym it.0) (sym it.1)
+
+pub beside_open : (a m : View) (read : Found) → Looks a m → (a.told → (is_open a.seen.a ≡ true) × (has_header a.seen.a ≡ true) × AreRead a.seen.a read) → (area : Area) (at : ℕ) → IsOpenAt B m area at → DamagedAt a area at
+beside_open a m read looks has area at is told =
+    let it = open_b a m looks told area at is in
+    let was = has told in
+    beside_frames a.seen (all_stored read.batches.items) was.0 was.1 was.2.read it.2 ∙ place (sym it.0) (sym it.1)
+
+-- what was opened
+pub opened_read : (a d : View) (read : Found) → Only a.seen a.may_leave → ((c : Image) → d.may_leave c → a.may_leave c) → is_open a.seen.a ≡ true → has_header a.seen.a ≡ true → AreRead a.seen.a read → is_open a.seen.b ≡ false → Opened a d read
+opened_read a d read only crash opened has is closed_b =
+    let it = has_read a.seen read opened has is closed_b in
+    record {
+      found = it.batches;
+      store = λ c left. subst (λ (i : Image). Has (all_stored read.batches.items) read.end i) (sym (only c (crash c left))) it;
+      new_area = λ closed. absurd (let no : true ≡ false = sym opened ∙ closed in cc);
+    }
+
+pub opened_new : (a d : View) (read : Found) → is_open a.seen.a ≡ false → is_open a.seen.b ≡ false → read.batches.items ≡ [] → read.end ≡ 17 → IsStore d.may_leave 17 [] → Leaves A (Laid 0) d → Opened a d read
+opened_new a d read closed_a closed_b none start store laid = record {
+  found = none_stored a.seen closed_a closed_b ∙ ap (λ (l : List Batch). let r : Result (List Stored) Damage = Ok (all_stored l) in r) (sym none);
+  store = subst (λ (l : List Batch). IsStore d.may_leave read.end (all_stored l)) (sym none) (subst (λ (k : ℕ). IsStore d.may_leave k []) (sym start) store);
+  new_area = λ closed. laid;
 }
 
-pub same_new : (a b d : View) → (a.told → Only a.seen a.may_leave) → Looks a b → (a.told → is_open a.seen.a ≡ false) → Runs b d (OpensTo b []) → Runs a d (OpensSame a)
-same_new a b d only looks closed run = runs_on a b d _ _ (OpensSame a) (looks_same a b only looks) run (λ told p c is. is)
-    (λ told p c is. (is.0 ∙ looks.printed told, is.1 ∙ sym (closed_opens a.seen (closed told))))
+-- the run from the sync on
+pub settled : (a b d : View) → IsLawful b → b.told → b.printed ≡ a.printed → b.seen ≡ a.seen → b.synced ≡ a.synced ++ b.moment ∷ [] → Only a.seen b.may_leave → Writes b d (Opening b) → Settled a d (HasSame a)
+settled a b d lawful told printed seen first only run =
+    settled_since a b d (HasSame a) lawful told first
+    (run_weaker b d _ (HasSame a) run.moments (λ t p c is. (is.0 ∙ printed, is.1.0 ∙ ap batches seen)))
+    (λ c left. (printed, ap batches (only c left)))
 
-stored_all : (a d : View) (at : ℕ) (db : Database) → Only a.seen a.may_leave → ((c : Image) → d.may_leave c → a.may_leave c) → IsOpen a.seen.a at db → IsStore d.may_leave at db
-stored_all a d at db only crash is c left = subst (λ (i : Image). IsOpen i.a at db) (sym (only c (crash c left))) is
-
-pub read_stored : (a d : View) (r : Result Found FrameFail) → is_open a.seen.a ≡ true → has_header a.seen.a ≡ true → Only a.seen a.may_leave → ((c : Image) → d.may_leave c → a.may_leave c) → IsRead a.seen.a r
-    → IfOk r (λ found. (db : Database) → fold_batches A found.batches.items ≡ Ok db → IsStore d.may_leave found.end db)
-read_stored a d (Ok found) open_is has only crash is = λ db folds. stored_all a d found.end db only crash (read_open a.seen.a open_is has found.batches.items found.end db is folds)
-read_stored a d (Err e) open_is has only crash is = tt
-
-head_same : (x y : ℕ) (xs ys : List ℕ) → x ∷ xs ≡ y ∷ ys → x ≡ y
-head_same x y xs ys is = ap (λ (l : List ℕ). get_or l 0 0) is
-
--- the run from a sync on
-pub settled : (a b d : View) → IsLawful b → b.told → b.printed ≡ a.printed → b.seen ≡ a.seen → b.synced ≡ a.synced ++ b.moment ∷ [] → Only a.seen b.may_leave → Runs b d (OpensSame b) → Settled a d (OpensSame a)
-settled a b d lawful told printed seen first only run = record {
-  each = λ t later is.
-      let rest = run.synced told in
-      let same : a.synced ++ b.moment ∷ rest.0 ≡ a.synced ++ t ∷ later = sym (append_assoc a.synced (b.moment ∷ []) rest.0) ∙ ap (λ (l : List ℕ). l ++ rest.0) (sym first) ∙ sym rest.1 ∙ is in
-      let at : b.moment ≡ t = head_same b.moment t rest.0 later (append_cancel_left a.synced (b.moment ∷ rest.0) (t ∷ later) same) in (
-        omega (arith, at, (run.time told).later),
-        λ p c left. let it = each b d (OpensSame b) lawful (run.time told) (λ i now. (refl, ap opens (only i now ∙ sym seen))) p c (subst (λ k. d.since k p c) (sym at) left) in
-            (it.0 ∙ printed, it.1 ∙ ap opens seen),
-      );
-}
-
-pub not_settled : (a b : View) (P : List ℕ → Image → Type 0) → b.synced ≡ a.synced → Settled a b P
-not_settled a b P same = record { each = λ t later is. absurd (let long = length-append a.synced (t ∷ later) in omega (arith, ap length (sym same ∙ is), long)) }
+pub same_b : (a b d : View) → IsLawful b → IsLawful d → b.told → b.seen ≡ a.seen → Only a.seen b.may_leave → Writes b d (Opening b) → d.seen.b ≡ a.seen.b
+same_b a b d lawful lawful' told seen only run =
+    (after_writes b d (Opening b) lawful lawful' told run (λ c left. let same = only c left ∙ sym seen in (ap batches same, ap (λ (i : Image). i.b) same)) d.seen lawful'.reads).1
+    ∙ ap (λ (i : Image). i.b) seen

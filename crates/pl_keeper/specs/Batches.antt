@@ -1,41 +1,34 @@
--- The batches that a keeper gives: the frames of a file, each with the operation that its payload spells.
-use Rattle.std.specs.Prelude.{◌≡◌, ℕ, List, [], ◌∷◌, length, map, Option, Some, None, Result, Ok, Err, if◌then◌else◌}
+-- The batches of a store: what its commits stored, in order.
+use Rattle.std.specs.Prelude.{ℕ, List, [], length, Bool, true, false, Result, Ok, Err, if◌then◌else◌}
+use Rattle.pl_base.specs.Image.{Image}
 use Rattle.pl_base.specs.declared.area.Area.{Area}
+use Rattle.pl_base.specs.declared.area.Area.TheVariants.{A, B}
 use Rattle.pl_base.specs.declared.operation.Op.{Op}
-use Rattle.pl_model.specs.Database.{Database}
-use Rattle.pl_model.specs.Format.{is_open, has_header, frames_from}
-use Rattle.pl_model.specs.Opening.{Damage, in_area}
-use Rattle.pl_model.specs.Operation.{apply}
-use Rattle.pl_model.specs.Spelling.{operation_of, is_whole}
-use Rattle.pl_keeper.specs.declared.batch.Batch.{Batch}
+use Rattle.pl_codec.specs.Spelling.{operation_of}
+use Rattle.pl_frames.specs.Format.{is_open, has_header, frames_from}
 
--- the open frames of a file, with the places of their gates: none where it is closed; or the place where it is malformed
-abbrev pub area_frames : List ℕ → Result (List (ℕ × List ℕ)) ℕ
-area_frames file =
+-- what one commit stored: the place of its frame's gate in the file of its area, and the operation that the frame spells
+abbrev pub Stored : Type 0
+Stored = ℕ × Op
+
+-- where a store is malformed: the area, and the first such place in its file
+pub record Damage : Type 0 where
+  pub area : Area
+  pub at : ℕ
+
+-- the batches of a file, from byte 17 on: none where it is closed; or the place where it is malformed
+abbrev pub area_batches : List ℕ → Result (List Stored) ℕ
+area_batches file =
     if is_open file
-    then (if has_header file then frames_from is_whole (length file) file 17 else Err 0)
+    then (if has_header file then frames_from operation_of (length file) file 17 else Err 0)
     else Ok []
 
--- a batch, and a frame, as a place and an operation
-abbrev pub of_batch : Batch → ℕ × Option Op
-of_batch batch = (batch.at, Some batch.op)
+-- the batches of area A, where area B is open or not
+abbrev pub beside : Result (List Stored) ℕ → Bool → Result (List Stored) Damage
+beside (Err at) is_open = Err (record { area = A; at = at })
+beside (Ok list) true = Err (record { area = B; at = 0 })
+beside (Ok list) false = Ok list
 
-abbrev pub of_frame : ℕ × List ℕ → ℕ × Option Op
-of_frame frame = (frame.0, operation_of frame.1)
-
--- the batches are these frames, each with the operation that it spells
-abbrev pub AreDecoded : List (ℕ × List ℕ) → List Batch → Type 0
-AreDecoded frames batches = map of_frame frames ≡ map of_batch batches
-
--- the batches are the open frames of this file
-abbrev pub AreBatches : List ℕ → List Batch → Type 0
-AreBatches file batches = (frames : List (ℕ × List ℕ)) × (area_frames file ≡ Ok frames) × AreDecoded frames batches
-
--- the database after the operations of the batches; or the gate of the first one whose operation doesn't apply
-abbrev pub apply_batches : List Batch → Database → Result Database ℕ
-apply_batches [] db = Ok db
-apply_batches (batch ∷ batches) db = elim (apply batch.op db) [ None ↦ Err batch.at | Some next ↦ apply_batches batches next ]
-
--- what the batches of an area lead to, from the empty database on
-abbrev pub fold_batches : Area → List Batch → Result Database Damage
-fold_batches area batches = in_area area (apply_batches batches [])
+-- The batches of the two files: those of area A, whose form is judged first. Area B isn't used yet: where it is open it is damaged.
+unfoldable pub batches : Image → Result (List Stored) Damage
+batches image = beside (area_batches image.a) (is_open image.b)

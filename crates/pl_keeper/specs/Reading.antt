@@ -1,31 +1,37 @@
--- What the calls that read a store answer.
-use Rattle.std.specs.Prelude.{◌≡◌, ℕ, List, length, take, Result, Ok, Err}
+-- What the calls that read a store find.
+use Rattle.std.specs.Prelude.{◌≡◌, ℕ, List, length, take, true, false, Ok, Err}
+use Rattle.pl_base.specs.Image.{Image, file}
+use Rattle.pl_base.specs.declared.area.Area.{Area}
 use Rattle.pl_base.specs.declared.area.Area.TheVariants.{A}
-use Rattle.pl_model.specs.Format.{Frames, frames_from, placed, AllPass}
-use Rattle.pl_model.specs.Spelling.{is_whole}
-use Rattle.pl_frames.specs.declared.fail.FrameFail.{FrameFail}
-use Rattle.pl_frames.specs.declared.fail.FrameFail.TheVariants.{Fault, Damaged, Memory}
-use Rattle.pl_keeper.specs.Batches.{AreDecoded, AreBatches, area_frames}
-use Rattle.pl_keeper.specs.declared.batch.Batch.{Batch}
+use Rattle.pl_codec.specs.Spelling.{operation_of}
+use Rattle.pl_disk.specs.Disk.{View}
+use Rattle.pl_frames.specs.Format.{Frames, frames_from, is_open}
+use Rattle.pl_frames.specs.Header.{Laid}
+use Rattle.pl_keeper.specs.Batches.{batches}
+use Rattle.pl_keeper.specs.Store.{IsStore, all_stored}
 use Rattle.pl_keeper.specs.declared.opening.Found.{Found}
 
--- these batches are all frames of the file, which end at this place
-pub record AreRead (file : List ℕ) (batches : List Batch) (end : ℕ) : Type 0 where
-  pub list : List (List ℕ)
-  pub same : AreDecoded (placed 17 list) batches
-  pub frames : Frames file (take 17 file) list end
-  pub pass : AllPass is_whole list
+-- these are all the frames of the file, and they end at that place
+pub record AreRead (file : List ℕ) (found : Found) : Type 0 where
+  pub payloads : List (List ℕ)
+  pub frames : Frames file (take 17 file) payloads found.end
+  pub read : frames_from operation_of (length file) file 17 ≡ Ok (all_stored found.batches.items)
 
--- the answer is the frames of the file, and `Damaged` comes exactly at the first that is malformed
-abbrev pub IsRead : List ℕ → Result Found FrameFail → Type 0
-IsRead file (Ok found) = AreRead file found.batches.items found.end
-IsRead file (Err (Damaged area at)) = (area ≡ A) × (frames_from is_whole (length file) file 17 ≡ Err at)
-IsRead file (Err Fault) = Unit {0}
-IsRead file (Err Memory) = Unit {0}
+-- the damage is the first frame of area A that is malformed
+abbrev pub BreaksIn : View → Area → ℕ → Type 0
+BreaksIn v area at =
+    v.told → (area ≡ A) × (frames_from operation_of (length v.seen.a) v.seen.a 17 ≡ Err at)
 
--- the batches are the open frames of the file, and `Damaged` comes exactly at the first place where it is malformed
-abbrev pub IsFound : List ℕ → Result Found FrameFail → Type 0
-IsFound file (Ok found) = AreBatches file found.batches.items
-IsFound file (Err (Damaged area at)) = (area ≡ A) × (area_frames file ≡ Err at)
-IsFound file (Err Fault) = Unit {0}
-IsFound file (Err Memory) = Unit {0}
+-- the damage is that this area is open
+abbrev pub IsOpenAt : Area → View → Area → ℕ → Type 0
+IsOpenAt area v where_ place = v.told → (where_ ≡ area) × (place ≡ 0) × (is_open (file area v.seen) ≡ true)
+
+-- the files that are left while a settled store is opened: they have the batches that are read, and the same area B
+abbrev pub Opening : View → Image → Type 0
+Opening v c = (batches c ≡ batches v.seen) × (c.b ≡ v.seen.b)
+
+-- it is opened
+pub record Opened (old new : View) (read : Found) : Type 0 where
+  pub found : batches old.seen ≡ Ok (all_stored read.batches.items)
+  pub store : IsStore new.may_leave read.end (all_stored read.batches.items)
+  pub new_area : is_open old.seen.a ≡ false → (c : Image) → new.may_leave c → Laid 0 c.a

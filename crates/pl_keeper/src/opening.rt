@@ -1,17 +1,13 @@
 //! How a store of which nothing is pending is read, and how a new one is made.
 
-ghost use Rattle.std.specs.Prelude.{◌≡◌, ◌<◌, ◌^◌, [], ℕ, Ok, true, false, IfOk, OnOk, IsErrOf};
-ghost use Rattle.pl_base.specs.Image.{Image};
-ghost use Rattle.pl_base.specs.declared.area.Area.{Area};
-ghost use Rattle.pl_base.specs.declared.area.Area.TheVariants.{A};
-ghost use Rattle.pl_model.specs.Database.{Database};
-ghost use Rattle.pl_model.specs.Format.{is_open, has_header};
-ghost use Rattle.pl_disk.specs.Disk.{Runs, Looks, Rises, Only};
-ghost use Rattle.pl_frames.specs.Header.{Laid};
-ghost use Rattle.pl_frames.specs.declared.fail.FrameFail.TheVariants.{Fault, Damaged};
-ghost use Rattle.pl_keeper.specs.Batches.{fold_batches};
-ghost use Rattle.pl_keeper.specs.Store.{IsStore, OpensSame, OpensTo};
-ghost use Rattle.pl_keeper.specs.Reading.{IsRead, IsFound};
+ghost use Rattle.std.specs.Prelude.{◌≡◌, ◌<◌, ◌^◌, [], true, false, IfOk, IfErr, OnOk};
+ghost use Rattle.pl_base.specs.declared.area.Area.TheVariants.{A, B};
+ghost use Rattle.pl_disk.specs.Disk.{Looks, Only, Writes};
+ghost use Rattle.pl_frames.specs.Cause.{HasCause, Never};
+ghost use Rattle.pl_frames.specs.Format.{is_open, has_header};
+ghost use Rattle.pl_frames.specs.Header.{Laid, Leaves};
+ghost use Rattle.pl_keeper.specs.Store.{IsStore, IsUsed, DamagedAt};
+ghost use Rattle.pl_keeper.specs.Reading.{AreRead, BreaksIn, IsOpenAt, Opening, Opened};
 
 use crate::Batch;
 use pl_base::Area;
@@ -31,13 +27,14 @@ pub struct Found {
     pub end: u64,
 }
 
-// The frames of an open area, each decoded.
+// The frames of an open area A, each decoded.
 fn read_frames<D: Disk>(alloc: Global, disk: &mut D) -> Result<Found, FrameFail>
     requires header { (D.view disk.old).told → has_header (D.view disk.old).seen.a ≡ true }
     ensures looks { Looks (D.view disk.old) (D.view disk.new) }
-    ensures read { (D.view disk.old).told → IsRead (D.view disk.old).seen.a result }
+    ensures read { (D.view disk.old).told → IfOk result (AreRead (D.view disk.old).seen.a) }
     ensures end { IfOk result (λ found. found.end < 2 ^ 63) }
-    ensures fault { IsErrOf result Fault → Rises (D.view disk.old).disk_faults (D.view disk.new).disk_faults }
+    ensures cause { IfErr result (
+        HasCause (BreaksIn (D.view disk.old)) (D.view disk.old) (D.view disk.new)) }
 {
     let mut batches = Vec::new(alloc);
     let mut at = FIRST_GATE;
@@ -53,17 +50,34 @@ fn read_frames<D: Disk>(alloc: Global, disk: &mut D) -> Result<Found, FrameFail>
     }
 }
 
-// Closes, lays and opens area A. Each image opens to the empty database all the while.
+// Area B isn't used yet, so an open one is damaged.
+fn refuse_area_b<D: Disk>(alloc: Global, disk: &mut D) -> Result<(), FrameFail>
+    ensures looks { Looks (D.view disk.old) (D.view disk.new) }
+    ensures closed { (D.view disk.old).told →
+        OnOk result (is_open (D.view disk.old).seen.b ≡ false) }
+    ensures cause { IfErr result (
+        HasCause (IsOpenAt B (D.view disk.old)) (D.view disk.old) (D.view disk.new)) }
+{
+    match inspect(alloc, disk, Area::B)? {
+        None => Ok(()),
+        Some(_) => Err(FrameFail::Damaged {
+            area: Area::B,
+            at: 0,
+        }),
+    }
+}
+
+// Closes, lays and opens area A. Each image has no batch all the while.
 fn new_store<D: Disk>(alloc: Global, disk: &mut D) -> Result<(), FrameFail>
-    requires settled { (D.view disk.old).told → Only (D.view disk.old).seen (D.view disk.old).may_leave }
-    requires closed { (D.view disk.old).told → is_open (D.view disk.old).seen.a ≡ false }
-    ensures moments { Runs (D.view disk.old) (D.view disk.new) (OpensTo (D.view disk.old) []) }
-    ensures printed { (D.view disk.old).told → (D.view disk.new).printed ≡ (D.view disk.old).printed }
-    ensures store { (D.view disk.old).told → OnOk result (IsStore (D.view disk.new).may_leave 17 []) }
-    ensures new_area { (D.view disk.old).told → OnOk result ((c : Image) → (D.view disk.new).may_leave c → Laid 0 c.a) }
-    ensures fault { IsErrOf result Fault → Rises (D.view disk.old).disk_faults (D.view disk.new).disk_faults }
-    ensures damaged { (a : Area) (p : ℕ) → IsErrOf result (Damaged a p) → ⊥ }
-    ensures say_faults { (D.view disk.new).say_faults ≡ (D.view disk.old).say_faults }
+    requires settled { (D.view disk.old).told →
+        Only (D.view disk.old).seen (D.view disk.old).may_leave }
+    requires closed_a { (D.view disk.old).told → is_open (D.view disk.old).seen.a ≡ false }
+    requires closed_b { (D.view disk.old).told → is_open (D.view disk.old).seen.b ≡ false }
+    ensures writes { Writes (D.view disk.old) (D.view disk.new) (Opening (D.view disk.old)) }
+    ensures store { (D.view disk.old).told →
+        OnOk result (IsStore (D.view disk.new).may_leave 17 []) }
+    ensures new_area { (D.view disk.old).told → OnOk result (Leaves A (Laid 0) (D.view disk.new)) }
+    ensures cause { IfErr result (HasCause Never (D.view disk.old) (D.view disk.new)) }
 {
     close_area(alloc, disk, Area::A)?;
     lay_header(alloc, disk, Area::A, 0)?;
@@ -71,24 +85,28 @@ fn new_store<D: Disk>(alloc: Global, disk: &mut D) -> Result<(), FrameFail>
     Ok(())
 }
 
-/// Reads a store of which nothing is pending, or makes a new one where area A is closed.
+/// Reads a store of which nothing is pending, or makes a new one where both areas are closed.
 pub fn open_store<D: Disk>(alloc: Global, disk: &mut D) -> Result<Found, FrameFail>
-    requires settled { (D.view disk.old).told → Only (D.view disk.old).seen (D.view disk.old).may_leave }
-    ensures moments { Runs (D.view disk.old) (D.view disk.new) (OpensSame (D.view disk.old)) }
-    ensures printed { (D.view disk.old).told → (D.view disk.new).printed ≡ (D.view disk.old).printed }
-    ensures found { (D.view disk.old).told → IsFound (D.view disk.old).seen.a result }
-    ensures store { (D.view disk.old).told → IfOk result (λ found. (db : Database) → fold_batches A found.batches.items ≡ Ok db → IsStore (D.view disk.new).may_leave found.end db) }
-    ensures new_area { (D.view disk.old).told → is_open (D.view disk.old).seen.a ≡ false → OnOk result ((c : Image) → (D.view disk.new).may_leave c → Laid 0 c.a) }
+    requires settled { (D.view disk.old).told →
+        Only (D.view disk.old).seen (D.view disk.old).may_leave }
+    ensures writes { Writes (D.view disk.old) (D.view disk.new) (Opening (D.view disk.old)) }
+    ensures opened { (D.view disk.old).told →
+        IfOk result (Opened (D.view disk.old) (D.view disk.new)) }
     ensures end { IfOk result (λ found. found.end < 2 ^ 63) }
-    ensures fault { IsErrOf result Fault → Rises (D.view disk.old).disk_faults (D.view disk.new).disk_faults }
-    ensures say_faults { (D.view disk.new).say_faults ≡ (D.view disk.old).say_faults }
+    ensures cause { IfErr result (
+        HasCause (DamagedAt (D.view disk.old)) (D.view disk.old) (D.view disk.new)) }
+    ensures looks { (D.view disk.old).told → IsUsed (D.view disk.old).seen
+        → Looks (D.view disk.old) (D.view disk.new) }
 {
-    let None = inspect(alloc, disk, Area::A)? else {
-        return read_frames(alloc, disk);
+    let Some(_) = inspect(alloc, disk, Area::A)? else {
+        refuse_area_b(alloc, disk)?;
+        new_store(alloc, disk)?;
+        return Ok(Found {
+            batches: Vec::new(alloc),
+            end: FIRST_GATE,
+        });
     };
-    new_store(alloc, disk)?;
-    Ok(Found {
-        batches: Vec::new(alloc),
-        end: FIRST_GATE,
-    })
+    let found = read_frames(alloc, disk)?;
+    refuse_area_b(alloc, disk)?;
+    Ok(found)
 }

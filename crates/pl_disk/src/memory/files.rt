@@ -51,7 +51,8 @@ impl Files {
         at: u64,
         bytes: &[u8],
     ) -> Result<Files, AllocError>
-        ensures { IfOk result (λ next. image_of next ≡ put_in area at bytes.now (image_of self.now)) }
+        ensures { IfOk result (λ next.
+            image_of next ≡ put_in area at bytes.now (image_of self.now)) }
     {
         let changed = put_bytes(alloc, self.of(area), at as usize, bytes)?;
         let mut next = self.copied(alloc)?;

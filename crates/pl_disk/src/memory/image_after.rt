@@ -1,6 +1,6 @@
 //! What a crash may leave, followed from the notes of a host in memory.
 ghost use Rattle.std.specs.Prelude.{◌≡◌, ◌≤◌, IfOk, length, take};
-ghost use Rattle.pl_disk.specs.Replay.{image_of, put_in};
+ghost use Rattle.pl_disk.specs.Replay.{image_of};
 ghost use Rattle.pl_disk.specs.Picks.{chosen, notes_until, picked, picked_images, left_by};
 
 use super::files::Files;
@@ -36,7 +36,8 @@ fn choose(
     at: u64,
     bytes: &[u8],
 ) -> Result<Files, AllocError>
-    ensures { IfOk result (λ next. image_of next ≡ chosen pick area at bytes.now (image_of left.now)) }
+    ensures { IfOk result (λ next.
+        image_of next ≡ chosen pick area at bytes.now (image_of left.now)) }
 {
     match pick {
         Pick::Old => left.copied(alloc),
@@ -50,7 +51,8 @@ fn choose(
 
 // Both after one more change.
 fn step(alloc: Global, before: &Picked, pick: Pick, change: &Change) -> Result<Picked, AllocError>
-    ensures { IfOk result (λ after. picked_images after ≡ picked pick (picked_images before.now) change.now) }
+    ensures { IfOk result (λ after.
+        picked_images after ≡ picked pick (picked_images before.now) change.now) }
 {
     match change {
         Change::Wrote { area, at, bytes } => {
@@ -92,7 +94,8 @@ pub fn left_after(
     call: u64,
     pick: Pick,
 ) -> Result<Files, AllocError>
-    ensures { IfOk result (λ left. image_of left ≡ left_by pick (image_of first.now) (notes_until call notes.now)) }
+    ensures { IfOk result (λ left.
+        image_of left ≡ left_by pick (image_of first.now) (notes_until call notes.now)) }
 {
     let count = count_until(notes, call);
     let seen = first.copied(alloc)?;

@@ -1,9 +1,9 @@
 //! A script in memory.
-ghost use Rattle.std.specs.Prelude.{◌≡◌, ◌≤◌, ◌++◌, ◌⊎◌, [], length, take, drop, Some, IfOk, IsErr};
+ghost use Rattle.std.specs.Prelude.{ℕ, List, ◌≡◌, ◌≤◌, ◌++◌, ◌∷◌, ◌⊎◌, [], length, take, drop, Some, IfOk, IsErr};
 ghost use Rattle.pl_disk.specs.Disk.{Rises};
 
 use crate::memory::counts::one_more;
-use crate::{Failed, Source};
+use crate::{Attached, Failed, Source};
 
 /// A script in memory. Its calls take no memory, and fail exactly where they are listed.
 #[derive(Drop)]
@@ -13,11 +13,12 @@ pub struct MemorySource {
     fail: Vec<u64>,
     calls: u64,
     faults: u64,
+    attached: Attached,
     ghost within: { at ≤ length bytes.items },
 }
 
 impl MemorySource {
-    ghost use Rattle.pl_disk.specs.Script.{IsFreshScript, FailsWhereListed, left_of};
+    ghost use Rattle.pl_disk.specs.Script.{IsFreshScript, FailsWhereListed, left_of, script_attached};
 
     /// A script of these bytes, and the numbers of the calls that are to fail. Calls of `attach` and
     /// `take` count alike, from 0.
@@ -30,12 +31,15 @@ impl MemorySource {
             fail,
             calls: 0,
             faults: 0,
+            attached: Attached::Nothing,
         }
     }
 
     // Counts a call, which fails where its number is listed.
     fn begin(&mut self) -> Result<(), Failed>
         ensures counts { FailsWhereListed self.old self.new result }
+        ensures attached { (names : List (List ℕ)) → script_attached self.old names
+            → script_attached self.new names }
         ensures left { left_of self.new ≡ left_of self.old }
     {
         let call = self.calls;
@@ -49,25 +53,30 @@ impl MemorySource {
 }
 
 impl Source for MemorySource {
-    ghost use Rattle.pl_disk.specs.Script.{FailsWhereListed, left_of, script_faults};
+    ghost use Rattle.pl_disk.specs.Script.{FailsWhereListed, left_of, script_faults, script_attached};
 
     ghost left = { λ s. Some (left_of s) };
 
-    ghost named = { λ s name. Unit {0} };
+    ghost attached = { λ s. script_attached s };
 
     ghost faults = { λ s. script_faults s };
 
     fn attach(&mut self, script: &str) -> Result<(), Failed>
         ensures fails_where_listed { FailsWhereListed self.old self.new result }
+        ensures attached { (names : List (List ℕ)) → script_attached self.old names
+            → script_attached self.new (names ++ script.now ∷ []) }
         ensures left { left_of self.new ≡ left_of self.old }
         ensures faults { script_faults self.old ≤ script_faults self.new }
         ensures cause { IsErr result → Rises (script_faults self.old) (script_faults self.new) }
     {
+        self.attached.add_lost();
         self.begin()
     }
 
     fn take(&mut self, into: &mut [u8]) -> Result<usize, Failed>
         ensures fails_where_listed { FailsWhereListed self.old self.new result }
+        ensures attached { (names : List (List ℕ)) → script_attached self.old names
+            → script_attached self.new names }
         ensures within { IfOk result (λ n. n ≤ length into.old) }
         ensures moved { IfOk result (λ n. (n ≤ length (left_of self.old))
             × (into.new ≡ take n (left_of self.old) ++ drop n into.old)

@@ -67,3 +67,20 @@ fn listed_calls_fail_and_change_nothing(rt: HostRuntime) -> Result<(), Fail> {
     assert_eq!(rt; buffer, *b"abc\0");
     Ok(())
 }
+
+#[test]
+fn a_listed_call_does_its_part(rt: HostRuntime) -> Result<(), Fail> {
+    let alloc = rt.alloc();
+    let fail = vec![in alloc; 0, 1]?;
+    let a = b"abc".to_vec(alloc)?;
+    let mut host = MemoryHost::with_part(alloc, a, Vec::new(alloc), fail, 2)?;
+    assert!(rt; host.area(Area::A).len() == 3);
+    assert!(rt; host.write_at(Area::A, 1, b"XYZ").is_err());
+    assert!(rt; host.say(b"said").is_err());
+    assert_eq!(rt; host.area(Area::A), b"aXY".as_slice());
+    assert_eq!(rt; host.printed(), b"sa".as_slice());
+    assert!(rt; host.calls() == 2);
+    let (left_a, _) = host.image_after(alloc, 1, Pick::Fill(b'.'))?;
+    assert_eq!(rt; left_a.as_slice(), b"a..".as_slice());
+    Ok(())
+}

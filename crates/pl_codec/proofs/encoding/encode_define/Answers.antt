@@ -1,5 +1,5 @@
 use Rattle.std.proofs.Common.{◌≡◌, ◌∙◌, ap, List, ℕ, rules}
-use Rattle.pl_model.specs.Spelling.{operation_of, define_bytes}
+use Rattle.pl_codec.specs.Spelling.{operation_of, define_bytes}
 use Rattle.pl_codec.proofs.Spelled.{define_read}
 use Rattle.pl_codec.proofs.encoding.encode_define.Goals as goal
 

@@ -2,7 +2,7 @@ use Rattle.std.proofs.Common.{rules, FitsSigned, ◌++◌, ◌∷◌, [], List, 
 use Rattle.std.proofs.Common.{ℤ, ap}
 use Rattle.std.specs.Int.{to_be_bytes, cast_unsigned, w32}
 use Rattle.std.proofs.lemmas.Int.{to_z-of_z}
-use Rattle.pl_model.specs.Spelling.{operation_of}
+use Rattle.pl_codec.specs.Spelling.{operation_of}
 use Rattle.pl_codec.proofs.Spelled.{joined, put_read}
 use Rattle.pl_codec.proofs.encoding.encode_put.Goals as goal
 

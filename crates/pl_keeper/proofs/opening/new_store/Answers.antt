@@ -1,37 +1,46 @@
-use Rattle.std.proofs.Common.{◌∙◌}
-use Rattle.pl_keeper.proofs.Opens.{closes, lays, opens_new, then_new, new_stored, new_laid}
+use Rattle.pl_keeper.proofs.Starts.{first_call, second_call, third_call, beside_all, new_stored, new_laid, from_empty}
 use Rattle.pl_keeper.proofs.opening.new_store.Goals as goal
 
-pub returns-in_err-close_area-clause-moments : goal.returns-in_err-close_area-clause-moments
-returns-in_err-close_area-clause-moments g c = closes _ _ c.requires.settled c.requires.closed c.close_area.ensures.moments
+pub returns-in_err-close_area-clause-writes : goal.returns-in_err-close_area-clause-writes
+returns-in_err-close_area-clause-writes g c =
+    from_empty _ _ c.requires.closed_a c.requires.closed_b (first_call _ _ c.requires.settled c.requires.closed_a c.requires.closed_b c.close_area.ensures.writes)
 
-pub returns-in_err-lay_header-clause-moments : goal.returns-in_err-lay_header-clause-moments
-returns-in_err-lay_header-clause-moments g c =
-    then_new _ _ _ c.close_area.ensures.printed (closes _ _ c.requires.settled c.requires.closed c.close_area.ensures.moments)
-    (lays _ _ (λ told. c.in_ok-close_area.ensures.closed (c.close_area.ensures.moments.told_before told)) c.lay_header.ensures.moments)
+pub returns-in_err-lay_header-clause-writes : goal.returns-in_err-lay_header-clause-writes
+returns-in_err-lay_header-clause-writes g c =
+    let first = first_call _ _ c.requires.settled c.requires.closed_a c.requires.closed_b c.close_area.ensures.writes in
+    from_empty _ _ c.requires.closed_a c.requires.closed_b
+    (second_call _ _ _ (g.met.D.Disk.lawful c.args.disk.now) (g.met.D.Disk.lawful c.close_area.new.disk) c.requires.settled c.requires.closed_b first c.in_ok-close_area.ensures.closed c.lay_header.ensures.writes)
 
-pub returns-in_err-open_area-clause-moments : goal.returns-in_err-open_area-clause-moments
-returns-in_err-open_area-clause-moments g c =
-    then_new _ _ _ (λ told. c.lay_header.ensures.printed (c.close_area.ensures.moments.told told) ∙ c.close_area.ensures.printed told)
-    (then_new _ _ _ c.close_area.ensures.printed (closes _ _ c.requires.settled c.requires.closed c.close_area.ensures.moments)
-    (lays _ _ (λ told. c.in_ok-close_area.ensures.closed (c.close_area.ensures.moments.told_before told)) c.lay_header.ensures.moments))
-    (opens_new _ _ (λ told. c.in_ok-lay_header.ensures.laid (c.lay_header.ensures.moments.told_before told)) c.open_area.ensures.moments)
+pub returns-in_err-open_area-clause-writes : goal.returns-in_err-open_area-clause-writes
+returns-in_err-open_area-clause-writes g c =
+    let lawful = g.met.D.Disk.lawful c.args.disk.now in
+    let first = first_call _ _ c.requires.settled c.requires.closed_a c.requires.closed_b c.close_area.ensures.writes in
+    let second = second_call _ _ _ lawful (g.met.D.Disk.lawful c.close_area.new.disk) c.requires.settled c.requires.closed_b first c.in_ok-close_area.ensures.closed c.lay_header.ensures.writes in
+    from_empty _ _ c.requires.closed_a c.requires.closed_b
+    (third_call _ _ _ lawful (g.met.D.Disk.lawful c.lay_header.new.disk) c.requires.settled c.requires.closed_b second (λ told. c.in_ok-lay_header.ensures.laid (first.moments.continues.told told)) c.open_area.ensures.writes)
 
-pub returns-clause-moments : goal.returns-clause-moments
-returns-clause-moments g c =
-    then_new _ _ _ (λ told. c.lay_header.ensures.printed (c.close_area.ensures.moments.told told) ∙ c.close_area.ensures.printed told)
-    (then_new _ _ _ c.close_area.ensures.printed (closes _ _ c.requires.settled c.requires.closed c.close_area.ensures.moments)
-    (lays _ _ (λ told. c.in_ok-close_area.ensures.closed (c.close_area.ensures.moments.told_before told)) c.lay_header.ensures.moments))
-    (opens_new _ _ (λ told. c.in_ok-lay_header.ensures.laid (c.lay_header.ensures.moments.told_before told)) c.open_area.ensures.moments)
+pub returns-clause-writes : goal.returns-clause-writes
+returns-clause-writes g c =
+    let lawful = g.met.D.Disk.lawful c.args.disk.now in
+    let first = first_call _ _ c.requires.settled c.requires.closed_a c.requires.closed_b c.close_area.ensures.writes in
+    let second = second_call _ _ _ lawful (g.met.D.Disk.lawful c.close_area.new.disk) c.requires.settled c.requires.closed_b first c.in_ok-close_area.ensures.closed c.lay_header.ensures.writes in
+    from_empty _ _ c.requires.closed_a c.requires.closed_b
+    (third_call _ _ _ lawful (g.met.D.Disk.lawful c.lay_header.new.disk) c.requires.settled c.requires.closed_b second (λ told. c.in_ok-lay_header.ensures.laid (first.moments.continues.told told)) c.open_area.ensures.writes)
 
 pub returns-clause-store : goal.returns-clause-store
 returns-clause-store g c told =
-    let one = c.close_area.ensures.moments.told told in
-    let two = c.lay_header.ensures.moments.told one in
-    new_stored (g.D.Disk.view c.lay_header.new.disk) _ (g.met.D.Disk.lawful c.lay_header.new.disk two) (c.in_ok-lay_header.ensures.laid one) (c.in_ok-open_area.ensures.opened two)
+    let a = g.D.Disk.view c.args.disk.now in
+    let lawful = g.met.D.Disk.lawful c.args.disk.now in
+    let first = first_call _ _ c.requires.settled c.requires.closed_a c.requires.closed_b c.close_area.ensures.writes in
+    let second = second_call _ _ _ lawful (g.met.D.Disk.lawful c.close_area.new.disk) c.requires.settled c.requires.closed_b first c.in_ok-close_area.ensures.closed c.lay_header.ensures.writes in
+    let third = third_call _ _ _ lawful (g.met.D.Disk.lawful c.lay_header.new.disk) c.requires.settled c.requires.closed_b second (λ t. c.in_ok-lay_header.ensures.laid (first.moments.continues.told t)) c.open_area.ensures.writes in
+    let one = first.moments.continues.told told in
+    let two = second.moments.continues.told told in
+    new_stored a.seen.b (g.D.Disk.view c.lay_header.new.disk) (g.D.Disk.view c.open_area.new.disk) (c.requires.closed_b told) (g.met.D.Disk.lawful c.lay_header.new.disk two) (c.in_ok-lay_header.ensures.laid one)
+    (beside_all _ _ lawful (g.met.D.Disk.lawful c.open_area.new.disk) c.requires.settled third (third.moments.continues.told told)) (c.in_ok-open_area.ensures.opened two)
 
 pub returns-clause-new_area : goal.returns-clause-new_area
 returns-clause-new_area g c told =
-    let one = c.close_area.ensures.moments.told told in
-    let two = c.lay_header.ensures.moments.told one in
-    new_laid (g.D.Disk.view c.lay_header.new.disk) _ (g.met.D.Disk.lawful c.lay_header.new.disk two) (c.in_ok-lay_header.ensures.laid one) (c.in_ok-open_area.ensures.opened two)
+    let one = c.close_area.ensures.writes.moments.continues.told told in
+    let two = c.lay_header.ensures.writes.moments.continues.told one in
+    new_laid (g.D.Disk.view c.lay_header.new.disk) (g.D.Disk.view c.open_area.new.disk) (g.met.D.Disk.lawful c.lay_header.new.disk two) (c.in_ok-lay_header.ensures.laid one) (c.in_ok-open_area.ensures.opened two)

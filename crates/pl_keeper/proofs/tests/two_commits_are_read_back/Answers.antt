@@ -3,7 +3,7 @@ use Rattle.std.specs.Str.{is_utf8, chars}
 use lib.Utf8.{encode}
 use Rattle.pl_base.specs.declared.operation.Op.TheVariants.{Put}
 use Rattle.pl_base.specs.declared.value.Value.{Value}
-use Rattle.pl_model.specs.Spelling.{is_define_text, is_table_name, HasSpelling}
+use Rattle.pl_codec.specs.Spelling.{is_define_text, is_table_name, HasSpelling}
 use Rattle.pl_keeper.proofs.tests.two_commits_are_read_back.Goals as goal
 
 pub commit-requires-clause-spelling : goal.commit-requires-clause-spelling

@@ -1,4 +1,5 @@
-use Rattle.std.proofs.Common.{Result, Ok, refl}
+use Rattle.std.proofs.Common.{Result, Ok, refl, arith}
+use Rattle.pl_disk.specs.Attached.{AreAttached}
 use Rattle.pl_disk.specs.Replay.{image_of}
 use Rattle.pl_disk.specs.declared.device.Failed.{Failed}
 use Rattle.pl_disk.specs.declared.memory.note.Change.TheVariants.{Synced}
@@ -19,8 +20,8 @@ returns-clause-call c =
     let now = c.begin.new.self in
     let fine : Result (Unit {0}) Failed = Ok tt in
     let note : Note = record { call = c.in_ok-call.call; change = Synced } in
-    done (image_of h.first) (image_of h.files) h.printed.items h.notes.items c.push.new.self.items note c.in-Ok.ensures.items h.kept (image_of h.files)
-    h.counts.disk_faults h.counts.say_faults now.disk_faults now.say_faults fine (same_disk h.counts now _ c.in_ok-call.ensures.ok) (same_say h.counts now _ c.in_ok-call.ensures.ok) (λ err. cc err) (λ p i none. none) refl
+    done (image_of h.first) (image_of h.files) h.printed.items h.notes.items c.push.new.self.items note c.in-Ok.ensures.items h.kept (AreAttached h.attached) (image_of h.files)
+    h.counts.disk_faults h.counts.say_faults now.disk_faults now.say_faults fine (omega (arith, same_disk h.counts now _ c.in_ok-call.ensures.ok)) (same_say h.counts now _ c.in_ok-call.ensures.ok) (λ err. cc err) (λ p i none. none) refl
 
 pub returns-clause-settled : goal.returns-clause-settled
 returns-clause-settled c =

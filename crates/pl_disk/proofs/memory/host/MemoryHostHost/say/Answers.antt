@@ -1,33 +1,28 @@
-use Rattle.std.proofs.Common.{rules, Result, Ok, ◌≡◌, ◌++◌, ◌∷◌, [], ℕ, ap, ◌∙◌}
-use Rattle.pl_disk.specs.Replay.{image_of}
+use Rattle.std.proofs.Common.{⊎_elim, Result, Ok, Err, refl, sym, arith, ap, drop, [], take-append-drop}
+use Rattle.std.proofs.lemmas.List.{append-nil}
+use Rattle.pl_disk.specs.Tally.{Tally}
 use Rattle.pl_disk.specs.declared.device.Failed.{Failed}
-use Rattle.pl_disk.specs.declared.memory.note.Change.TheVariants.{Said}
-use Rattle.pl_disk.specs.declared.memory.note.Note.{Note}
-use Rattle.pl_disk.proofs.Counted.{same_disk, same_say}
-use Rattle.pl_disk.proofs.Replayed.{kept_said, said}
+use Rattle.pl_disk.proofs.Counted.{same_disk, same_say, rises}
+use Rattle.pl_disk.proofs.Steps.{by_result, print_says, no_print_says}
 use Rattle.pl_disk.proofs.memory.host.MemoryHostHost.say.Goals as goal
 
-pub invariant_of-self-2 : goal.invariant_of-self-2
-invariant_of-self-2 c =
+pub returns-then-count-gt0-clause-says : goal.returns-then-count-gt0-clause-says
+returns-then-count-gt0-clause-says c =
     let h = c.args.self.now in
-    let same : c.in-Ok.copy.items ≡ c.args.text.now = search rules in
-    let new : c.in-Ok-joined.next.items ≡ h.printed.items ++ c.args.text.now = search rules in
-    record { kept = kept_said (image_of h.first) (image_of h.files) h.printed.items h.notes.items c.push.new.self.items c.in_ok-call.call c.in-Ok.copy c.args.text.now same c.in-Ok-push.ensures.items h.kept c.in-Ok-joined.next.items new }
+    let k = c.begin_saying.new.self in
+    let lost : Result (Unit {0}) Failed = Err (record {}) in
+    let more = ap (λ (t : Tally). t.say_faults) c.in_default.ensures.err in
+    let disk = sym (ap (λ (t : Tally). t.disk_faults) c.in_default.ensures.err) in
+    let say = c.in_default.ensures.no_fewer in
+    ⊎_elim (λ did. print_says _ _ k c.print.ensures.rest refl _ c.print.ensures.files _ did c.args.text.now h.counts.disk_faults h.counts.say_faults lost disk say (λ err. rises h.counts.say_faults k.say_faults more) (drop c.part_of-count.result c.args.text.now, take-append-drop c.part_of-count.result c.args.text.now) tt)
+    (λ nothing. no_print_says _ _ k c.print.ensures.rest refl c.print.ensures.files nothing c.args.text.now h.counts.disk_faults h.counts.say_faults lost refl disk say more)
+    (by_result c.print.result c.print.ensures.prints c.print.ensures.nothing)
 
-pub returns-clause-says : goal.returns-clause-says
-returns-clause-says c =
+pub returns-in-Ok-print-clause-says : goal.returns-in-Ok-print-clause-says
+returns-in-Ok-print-clause-says c =
     let h = c.args.self.now in
-    let now = c.begin_saying.new.self in
+    let k = c.begin_saying.new.self in
     let fine : Result (Unit {0}) Failed = Ok tt in
-    let same : c.in-Ok.copy.items ≡ c.args.text.now = search rules in
-    let new : c.in-Ok-joined.next.items ≡ h.printed.items ++ c.args.text.now = search rules in
-    said (image_of h.first) (image_of h.files) h.printed.items h.notes.items c.push.new.self.items c.in_ok-call.call c.in-Ok.copy c.args.text.now same c.in-Ok-push.ensures.items h.kept
-    c.in-Ok-joined.next.items h.counts.disk_faults h.counts.say_faults now.disk_faults now.say_faults fine new (same_disk h.counts now _ c.in_ok-call.ensures.ok) (same_say h.counts now _ c.in_ok-call.ensures.ok) (λ err. cc err) new
-
-pub returns-clause-noted : goal.returns-clause-noted
-returns-clause-noted c =
-    let h = c.args.self.now in
-    let copy = c.in-Ok.copy in
-    let same : copy.items ≡ c.args.text.now = search rules in
-    let note : ℕ → Note = λ call. record { call = call; change = Said copy } in
-    (copy, same, c.in-Ok-push.ensures.items ∙ ap (λ (call : ℕ). h.notes.items ++ note call ∷ []) c.in_ok-call.ensures.number)
+    let same = same_say h.counts k _ c.in-Ok.ensures.ok in
+    print_says _ _ k c.in-Ok-print.ensures.rest refl _ c.in-Ok-print.ensures.files _ c.in-Ok-print.ensures.prints c.args.text.now h.counts.disk_faults h.counts.say_faults fine (same_disk h.counts k _ c.in-Ok.ensures.ok) (omega (arith, same)) (λ err. cc err)
+    ([], append-nil c.args.text.now) c.in-Ok-print.ensures.prints.printed
