@@ -28,7 +28,7 @@ def sql(value):
     return "('%d'::%s)" % (x, "integer" if kind == "Int" else "bigint")
 
 def quoted(x):
-    return '"' + x.replace("\\", "\\\\").replace('"', '\\"').replace("\n", "\\n").replace("\t", "\\t").replace("\f", "\\x0c") + '"'
+    return '"' + x.replace("\\", "\\\\").replace('"', '\\"').replace("\n", "\\n").replace("\t", "\\t").replace("\f", "\\x0c").replace("\v", "\\x0b") + '"'
 
 def literal(kind, x):
     if x is None:
@@ -90,7 +90,7 @@ def operations():
     for name, args in calls:
         rows.append(("FUNCTION", "%s, &[%s]" % (quoted(name), ", ".join(map(rust, args))), "%s(%s)" % (name, ", ".join(map(sql, args)))))
     values = [("Int", 0), ("Int", 5), ("Int", -2147483648), ("Big", 2147483647), ("Big", 2147483648), ("Bool", True), ("Bool", False), ("Text", "7"), ("Int", None)]
-    values += [("Text", t) for t in [" +12\n", "-0", "2147483648", "-2147483649", "-9223372036854775808", "9223372036854775808", "99999999999999999999999", "", "-", "+-1", "1 2", "1.0", "x", "\t t\f", "TRUE", "o", "on", "of", "OFF", "0", "ye", "yess", "fal", "2", "N"]]
+    values += [("Text", t) for t in [" +12\n", "-0", "2147483648", "-2147483649", "-9223372036854775808", "9223372036854775808", "99999999999999999999999", "", "-", "+-1", "1 2", "1.0", "x", "\t t\f", "TRUE", "o", "on", "of", "OFF", "0", "ye", "yess", "fal", "2", "N", "\v7\v", "\vt \v"]]
     for value in values:
         for name, variant in TYPES.items():
             rows.append(("CAST", "%s, To%s" % (rust(value), variant), "CAST(%s AS %s)" % (sql(value), name)))

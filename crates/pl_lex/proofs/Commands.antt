@@ -10,7 +10,8 @@ use Rattle.pl_lex.specs.declared.token.Piece.{Piece}
 use Rattle.pl_lex.specs.Lexemes.{Lexeme, with_token, or_bad, tokens_of, first_bad, before_semicolon, command_end, all_skipped, is_semicolon, is_skipped, piece, IsNext}
 use Rattle.pl_lex.specs.Steps.{or_else, Gathered}
 use Rattle.pl_lex.proofs.Tools.{cond_then, cond_else}
-use Rattle.pl_lex.proofs.Whole.{lexemes, lexemes_read, with_token_all, all_stand}
+use Rattle.pl_lex.specs.Computed.{lexemes}
+use Rattle.pl_lex.proofs.Whole.{lexemes_read, with_token_all, all_stand}
 
 module _ {w : LexemeKind} {n : ℕ} {t : Text} (at : ℕ) (r : IsRead w n t) where
   abbrev More : List Lexeme

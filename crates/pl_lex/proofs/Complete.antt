@@ -1,10 +1,13 @@
 -- Each row that stands at the front of a text is what the scan finds there, or shorter.
-use Rattle.std.proofs.Common.{◌≡◌, [], ◌∷◌, ◌++◌, append_assoc}
+use Rattle.std.proofs.Common.{◌≡◌, [], ◌∷◌, ◌++◌, map, ap, sym, ◌∙◌, append_assoc}
+use Rattle.std.specs.Char.{to_ascii_lowercase}
 use Rattle.pl_lex.specs.Characters.{Text}
 use Rattle.pl_lex.specs.Rows as row
 use Rattle.pl_lex.specs.Rows.{Row}
 use Rattle.pl_lex.specs.declared.token.LexemeKind.{LexemeKind}
+use Rattle.pl_lex.specs.declared.token.LexemeKind.TheVariants.{Read}
 use Rattle.pl_lex.specs.Scan.{scan}
+use Rattle.pl_lex.proofs.Reserved.{kind_of_keyword, kind_of_name}
 use Rattle.pl_lex.proofs.Reach.{Reaches, moved, blank_case}
 use Rattle.pl_lex.proofs.Words.{word_case, long_word_case, number_case, great_case, spoiled_case, point_case}
 use Rattle.pl_lex.proofs.Marks as m
@@ -24,7 +27,8 @@ pub complete : {what : LexemeKind} {front rest : Text} → Row what front rest �
 complete {what} {front} {rest} (row.blank b h e k) = moved rest e k (blank_case b rest h)
 complete {what} {front} {rest} (row.line_comment line h e k) = moved rest e k (m.line_case line rest h)
 complete {what} {front} {rest} (row.comment text h e k) = moved rest e k (m.comment_case text rest h)
-complete {what} {front} {rest} (row.word h l k) = same_as (front ++ rest) k (word_case front rest h l)
+complete {what} {front} {rest} (row.keyword word h l is k) = same_as (front ++ rest) (k ∙ ap (λ x. Read x) (sym (kind_of_keyword (map to_ascii_lowercase front) word is))) (word_case front rest h l)
+complete {what} {front} {rest} (row.word h l none k) = same_as (front ++ rest) (k ∙ ap (λ x. Read x) (sym (kind_of_name (map to_ascii_lowercase front) none))) (word_case front rest h l)
 complete {what} {front} {rest} (row.quoted_name name h l e k) = moved rest e k (m.name_case name rest h l)
 complete {what} {front} {rest} (row.number_token h l k) = same_as (front ++ rest) k (number_case front rest h l)
 complete {what} {front} {rest} (row.text_token text e k) = moved rest e k (m.text_case text rest)

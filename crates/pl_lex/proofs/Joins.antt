@@ -1,36 +1,27 @@
 -- The commands of a text are what cutting gives.
-use Rattle.std.proofs.Common.{◌≡◌, ℕ, ◌+◌, ◌≤◌, min, Bool, true, false, cond, not, ◌&&◌, List, [], ◌∷◌, ◌++◌, length, drop, map, Option, Some, None, refl, sym, ap, ◌∙◌, arith, subst, length-append, drop-drop, length-drop, append_assoc, append-nil}
+use Rattle.std.proofs.Common.{◌≡◌, ℕ, ◌+◌, ◌≤◌, min, Bool, true, false, cond, not, ◌&&◌, List, [], ◌∷◌, ◌++◌, length, drop, Some, None, refl, sym, ap, ◌∙◌, arith, subst, length-append, drop-drop, length-drop, append_assoc, append-nil}
 use Rattle.std.proofs.Math.Seq.{drop-append_seam}
 use Rattle.std.proofs.lemmas.List.{drop_all}
-use Rattle.std.specs.Char.{to_ascii_lowercase}
 use Rattle.pl_lex.specs.Characters.{Text}
-use Rattle.pl_lex.specs.Spellings.{spelled, named, kind_of_word}
+use Rattle.pl_lex.specs.Spellings.{spelled}
 use Rattle.pl_lex.specs.Rows as row
 use Rattle.pl_lex.specs.Rows.{Row}
 use Rattle.pl_lex.specs.declared.token.LexemeKind.{LexemeKind}
 use Rattle.pl_lex.specs.declared.token.LexemeKind.TheVariants as what
 use Rattle.pl_lex.specs.declared.token.TokenKind.TheVariants as kind
-use Rattle.pl_lex.specs.declared.keyword.Keyword.{Keyword}
 use Rattle.pl_lex.specs.declared.sign.Sign.{Sign}
 use Rattle.pl_lex.specs.declared.sign.Sign.TheVariants as sign
 use Rattle.pl_lex.specs.declared.token.Piece.{Piece}
 use Rattle.pl_lex.specs.Lexemes.{Lexeme, Stand, is_semicolon, is_skipped, all_skipped, piece_of, pieces_from, Commands, before_semicolon, command_end, next_command, IsNext, Cuts}
 use Rattle.pl_lex.proofs.Tools.{and_left, and_right, and-true, cond_then, cond_else}
 
-no_named : (word : Text) (o : Option Keyword) (s : Sign) → what.Read (named word o) ≡ what.Read (kind.Sign s) → ⊥
-no_named word None s e = cc
-no_named word (Some k) s e = cc
-
-no_word : (word : Text) (s : Sign) → what.Read (kind_of_word word) ≡ what.Read (kind.Sign s) → ⊥
-unfolding kind_of_word
-no_word word s e = no_named word _ s e
-
 -- a lexeme that is a semicolon is spelled as one
 as_semicolon : {w : LexemeKind} {front rest : Text} → Row w front rest → w ≡ what.Read (kind.Sign sign.Semicolon) → front ≡ spelled sign.Semicolon
 as_semicolon {w} {front} {rest} (row.blank b h e k) e0 = absurd (cc (k, e0))
 as_semicolon {w} {front} {rest} (row.line_comment line h e k) e0 = absurd (cc (k, e0))
 as_semicolon {w} {front} {rest} (row.comment text h e k) e0 = absurd (cc (k, e0))
-as_semicolon {w} {front} {rest} (row.word h l k) e0 = absurd (no_word (map to_ascii_lowercase front) sign.Semicolon (sym k ∙ e0))
+as_semicolon {w} {front} {rest} (row.keyword word h l is k) e0 = absurd (cc (k, e0))
+as_semicolon {w} {front} {rest} (row.word h l none k) e0 = absurd (cc (k, e0))
 as_semicolon {w} {front} {rest} (row.quoted_name name h l e k) e0 = absurd (cc (k, e0))
 as_semicolon {w} {front} {rest} (row.number_token h l k) e0 = absurd (cc (k, e0))
 as_semicolon {w} {front} {rest} (row.text_token text e k) e0 = absurd (cc (k, e0))

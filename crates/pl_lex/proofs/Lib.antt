@@ -4,6 +4,7 @@ pub mod QuotedTexts
 pub mod Nesting
 pub mod DollarMarks
 pub mod EscapeParts
+pub mod Reserved
 pub mod Reach
 pub mod Words
 pub mod Marks
@@ -14,3 +15,6 @@ pub mod Whole
 pub mod Commands
 pub mod Joins
 pub mod Placed
+pub mod Endless
+pub mod SliceLexemes
+pub mod Lent

@@ -15,7 +15,7 @@ use Rattle.pl_lex.specs.declared.scan.Shape.{Shape}
 use Rattle.pl_lex.specs.declared.scan.Shape.TheVariants as shape
 use Rattle.pl_lex.specs.declared.sign.Sign.{Sign}
 use Rattle.pl_lex.specs.declared.sign.Sign.TheVariants as sign
-use Rattle.pl_base.specs.declared.state.TheConstants.State.{SYNTAX_ERROR, NAME_TOO_LONG, FEATURE_NOT_SUPPORTED}
+use Rattle.pl_base.specs.States.{SYNTAX_ERROR, NAME_TOO_LONG, FEATURE_NOT_SUPPORTED}
 use Rattle.pl_lex.specs.declared.token.TokenKind.TheVariants as kind
 use Rattle.pl_lex.proofs.Tools.{cond_then, cond_else, prefix_len-append, and_left, and_right, and-true, nth_front}
 use Rattle.pl_lex.proofs.Reach.{Reaches, longer, same, reaches, if_then, if_else, if_cases, digit_no_word, digit_not_dollar, no_escape_text}

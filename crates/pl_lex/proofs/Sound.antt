@@ -1,15 +1,19 @@
 -- LexemeKind the scan finds stands there.
-use Rattle.std.proofs.Common.{◌≡◌, ℕ, ◌+◌, ◌==◌, ◌&&◌, not, nat_le, Bool, true, false, cond, [], ◌∷◌, ◌++◌, length, slice_index, refl, sym, ap, ◌∙◌, arith, drop, length-append, append_assoc, subst}
-use Rattle.std.specs.Char.{is_ascii_digit}
+use Rattle.std.proofs.Common.{◌≡◌, ℕ, ◌+◌, ◌≤◌, ◌==◌, ◌&&◌, not, nat_le, Bool, true, false, cond, [], ◌∷◌, ◌++◌, length, slice_index, refl, sym, ap, ◌∙◌, arith, drop, map, Option, Some, None, length-append, append_assoc, subst}
+use Rattle.std.specs.Char.{is_ascii_digit, to_ascii_lowercase}
 use Rattle.std.specs.List.{prefix_len}
 use Rattle.std.proofs.lemmas.Bool.{eqb-true, leb-true, leb-false}
-use Rattle.pl_lex.specs.Characters.{Text, is_blank, begins_word, goes_on, are_digits}
+use Rattle.pl_lex.specs.Characters.{Text, is_blank, begins_word, goes_on, is_word, are_digits}
 use Rattle.pl_lex.specs.Spellings.{number}
 use Rattle.pl_lex.specs.Rows as row
-use Rattle.pl_lex.specs.Rows.{Row, IsStray}
-use Rattle.pl_lex.specs.Scan.{Found, meaning, word, number_found, number_shape}
+use Rattle.pl_lex.specs.Rows.{Row}
+use Rattle.pl_lex.specs.Scan.{Found, meaning, word, number_found, number_shape, keyword_of, named, kind_of_word}
+use Rattle.pl_lex.specs.declared.keyword.Keyword.{Keyword}
+use Rattle.pl_lex.specs.declared.token.LexemeKind.{LexemeKind}
+use Rattle.pl_lex.specs.declared.token.LexemeKind.TheVariants.{Read}
+use Rattle.pl_lex.proofs.Reserved.{named_is, none_is}
 use Rattle.pl_lex.specs.declared.scan.Shape.TheVariants as shape
-use Rattle.pl_base.specs.declared.state.TheConstants.State.{SYNTAX_ERROR, FEATURE_NOT_SUPPORTED, NUMERIC_VALUE_OUT_OF_RANGE}
+use Rattle.pl_base.specs.States.{SYNTAX_ERROR, FEATURE_NOT_SUPPORTED, NUMERIC_VALUE_OUT_OF_RANGE}
 use Rattle.pl_lex.proofs.Tools.{Run, run, Ends, cond_then, cond_else, and_left, and_right, and-true}
 use Rattle.pl_lex.proofs.Reach.{word_goes_on}
 use Rattle.pl_lex.proofs.Words.{number_split}
@@ -43,8 +47,15 @@ word_cut b t h = record { front = b ∷ r.front; rest = r.rest; is = ap (λ (x :
     n_is : length (b ∷ r.front) ≡ prefix_len goes_on (b ∷ t)
     n_is = sym (cond_then (goes_on b) _ _ (word_goes_on b h) ∙ omega (arith, r.len))
 
+    lower : Text
+    lower = map to_ascii_lowercase (b ∷ r.front)
+
+    reserved_or_name : {what : LexemeKind} (o : Option Keyword) → keyword_of lower ≡ o → is_word (b ∷ r.front) ≡ true → length (b ∷ r.front) ≤ 63 → what ≡ Read (kind_of_word lower) → Row what (b ∷ r.front) r.rest
+    reserved_or_name None e word few k = row.word word few (λ w is. none_is lower e w (sym is)) (k ∙ ap (λ x. Read (named lower x)) e)
+    reserved_or_name (Some w) e word few k = row.keyword w word few (sym (named_is lower w e)) (k ∙ ap (λ x. Read (named lower x)) e)
+
     by_length : (c : Bool) → nat_le (length (b ∷ r.front)) 63 ≡ c → Row (meaning shape.Word (b ∷ r.front)) (b ∷ r.front) r.rest
-    by_length true e = row.word (and-true (begins_word b) _ h r.all) (leb-true (length (b ∷ r.front)) 63 e) (cond_then (nat_le (length (b ∷ r.front)) 63) _ _ e)
+    by_length true e = reserved_or_name (keyword_of lower) refl (and-true (begins_word b) _ h r.all) (leb-true (length (b ∷ r.front)) 63 e) (cond_then (nat_le (length (b ∷ r.front)) 63) _ _ e)
     by_length false e = row.long_word (and-true (begins_word b) _ h r.all) (leb-false (length (b ∷ r.front)) 63 e) (cond_else (nat_le (length (b ∷ r.front)) 63) _ _ e)
 
 -- ---- numbers

@@ -13,7 +13,7 @@ use Rattle.pl_lex.specs.Scan.{Found, scan, meaning, quoted_text, quoted, undoubl
 use Rattle.pl_lex.specs.declared.scan.Shape.TheVariants as shape
 use Rattle.pl_lex.specs.declared.sign.Sign.{Sign}
 use Rattle.pl_lex.specs.declared.sign.Sign.TheVariants as sign
-use Rattle.pl_base.specs.declared.state.TheConstants.State.{SYNTAX_ERROR, FEATURE_NOT_SUPPORTED}
+use Rattle.pl_base.specs.States.{SYNTAX_ERROR, FEATURE_NOT_SUPPORTED}
 use Rattle.pl_lex.specs.declared.token.TokenKind.TheVariants as kind
 use Rattle.pl_lex.proofs.Tools.{run, cond_then, cond_else, and_left, and_right}
 use Rattle.pl_lex.proofs.QuotedTexts.{Unquoted, closed_at, open_all, unquoted}

@@ -18,6 +18,7 @@ use Rattle.pl_lex.specs.declared.lexer.LexFail.TheVariants as fail
 use Rattle.pl_lex.specs.Lexemes.{Longest, Lexeme, Stand, with_token, or_bad, tokens_of, first_bad, Lexemes, IsFailure}
 use Rattle.pl_lex.specs.Steps.{Kept, FailsBy}
 use Rattle.pl_lex.specs.Scan.{Found, scan, meaning, IsRead}
+use Rattle.pl_lex.specs.Computed.{first, lexemes_from, lexemes}
 use Rattle.pl_lex.proofs.Reach.{Reaches, longer, same}
 use Rattle.pl_lex.proofs.Complete.{complete}
 use Rattle.pl_lex.proofs.Sound.{Cut}
@@ -25,10 +26,7 @@ use Rattle.pl_lex.proofs.SoundMarks.{sound}
 
 -- ---- the lexeme at the front
 
-abbrev pub first : ℕ → Text → Lexeme
-first at t = record { what = meaning (scan t).0 (take (scan t).1 t); start = at; end = at + (scan t).1 }
-
-at_most : {what : LexemeKind} {front : Text} (f : Found) → Reaches f what front → length front ≤ f.1
+pub at_most : {what : LexemeKind} {front : Text} (f : Found) → Reaches f what front → length front ≤ f.1
 at_most f (longer l) = omega arith
 at_most f (same e m) = omega arith
 
@@ -52,7 +50,7 @@ pub record IsFirst (what : LexemeKind) (front rest : Text) : Type 0 where
   pub len : length front ≡ (scan (front ++ rest)).1
   pub what_is : what ≡ meaning (scan (front ++ rest)).0 front
 
-is_first : {what : LexemeKind} {front rest : Text} → Longest what front rest → Cut (scan (front ++ rest)) (front ++ rest) → IsFirst what front rest
+pub is_first : {what : LexemeKind} {front rest : Text} → Longest what front rest → Cut (scan (front ++ rest)) (front ++ rest) → IsFirst what front rest
 is_first {what} {front} {rest} l c =
     let k : Reaches (scan (front ++ rest)) what front = complete l.stands in
     let low : length c.front ≤ length front = l.longest (meaning (scan (front ++ rest)).0 c.front) c.front c.rest (sym c.is) c.row in
@@ -60,15 +58,6 @@ is_first {what} {front} {rest} l c =
     record { len = e; what_is = sym (meant (scan (front ++ rest)) k e) }
 
 -- ---- the lexemes of a text
-
--- `left`: how many bytes of a lexeme are left
-pub lexemes_from : ℕ → ℕ → Text → List Lexeme
-lexemes_from left at [] = []
-lexemes_from (suc left) at (b ∷ bs) = lexemes_from left (at + 1) bs
-lexemes_from zero at (b ∷ bs) = first at (b ∷ bs) ∷ lexemes_from ((scan (b ∷ bs)).1 - 1) (at + 1) bs
-
-pub lexemes : ℕ → Text → List Lexeme
-lexemes at t = lexemes_from 0 at t
 
 skip_left : (n at : ℕ) (t : Text) → n ≤ length t → lexemes_from n at t ≡ lexemes_from 0 (at + n) (drop n t)
 unfolding lexemes_from
@@ -139,7 +128,8 @@ pub some_front : {what : LexemeKind} {front rest : Text} → Row what front rest
 some_front {what} {front} {rest} (row.blank b h e k) = by_front e (omega arith)
 some_front {what} {front} {rest} (row.line_comment line h e k) = by_front e (omega arith)
 some_front {what} {front} {rest} (row.comment text h e k) = by_front e (omega arith)
-some_front {what} {front} {rest} (row.word h l k) = some_word front h
+some_front {what} {front} {rest} (row.keyword word h l is k) = some_word front h
+some_front {what} {front} {rest} (row.word h l none k) = some_word front h
 some_front {what} {front} {rest} (row.quoted_name name h l e k) = by_front e (omega arith)
 some_front {what} {front} {rest} (row.number_token h l k) = some_digit front h
 some_front {what} {front} {rest} (row.text_token text e k) = by_front e (omega arith)
@@ -185,7 +175,7 @@ stand (suc fuel) at (b ∷ bs) h =
     let l : Longest (meaning (scan t).0 (take (scan t).1 t)) c.front c.rest = subst (λ (x : Text). Longest (meaning (scan t).0 x) c.front c.rest) (sym front) (longest c) in
     subst (λ (xs : List Lexeme). Stand at xs t) (sym e) (c.front, c.rest, c.is, refl, ap (λ k. at + k) (sym c.len), l, stand fuel (at + (scan t).1) c.rest (omega arith))
 
-cut_of : (t : Text) → 1 ≤ length t → Cut (scan t) t
+pub cut_of : (t : Text) → 1 ≤ length t → Cut (scan t) t
 cut_of [] h = absurd (omega arith)
 cut_of (b ∷ bs) h = sound b bs
 

@@ -5,15 +5,15 @@ use Rattle.std.specs.List.{prefix_len}
 use Rattle.std.proofs.lemmas.Bool.{le-leb, lt-leb, eqb-true}
 use Rattle.std.proofs.Math.Seq.{take-append_seam, drop-append_seam}
 use Rattle.pl_lex.specs.Characters.{Text, begins_word, goes_on, every, is_word, is_spoiler, are_digits}
-use Rattle.pl_lex.specs.Spellings.{number, kind_of_word}
+use Rattle.pl_lex.specs.Spellings.{number}
 use Rattle.pl_lex.specs.declared.token.LexemeKind.{LexemeKind}
 use Rattle.pl_lex.specs.declared.token.LexemeKind.TheVariants.{Read, Bad}
-use Rattle.pl_lex.specs.Scan.{scan, meaning, word, number_found, number_with, number_shape, ended, opens_escape_text, escape_text, close_escape_text}
+use Rattle.pl_lex.specs.Scan.{scan, meaning, kind_of_word, word, number_found, number_with, number_shape, ended, opens_escape_text, escape_text, close_escape_text}
 use Rattle.pl_lex.specs.declared.scan.Shape.{Shape}
 use Rattle.pl_lex.specs.declared.scan.Shape.TheVariants as shape
 use Rattle.pl_lex.specs.declared.escapes.Pending.TheVariants.{Nothing}
 use Rattle.pl_lex.proofs.EscapeParts.{escape-after}
-use Rattle.pl_base.specs.declared.state.TheConstants.State.{SYNTAX_ERROR, NAME_TOO_LONG, FEATURE_NOT_SUPPORTED, NUMERIC_VALUE_OUT_OF_RANGE}
+use Rattle.pl_base.specs.States.{SYNTAX_ERROR, NAME_TOO_LONG, FEATURE_NOT_SUPPORTED, NUMERIC_VALUE_OUT_OF_RANGE}
 use Rattle.pl_lex.specs.declared.token.TokenKind.TheVariants as kind
 use Rattle.pl_lex.proofs.Tools.{Ends, and_left, and_right, and-true, prefix_len-append, prefix_len-ends, cond_then, cond_else}
 use Rattle.pl_lex.proofs.Reach.{Reaches, longer, reaches, if_then, if_cases, at_word, at_digit, word_goes_on}

@@ -1,5 +1,5 @@
--- The characters that the lexical rules name, and their classes (PostgreSQL's manual, "Lexical Structure"). A character past ASCII is
--- a word's character, and so is each of its bytes in UTF-8.
+-- The characters that the lexical rules name, and their classes (PostgreSQL's manual, "Lexical
+-- Structure"). A character past ASCII is a word's character, and so is each of its bytes in UTF-8.
 use Prim.Native.Char.{code}
 use Rattle.std.specs.Prelude.{ℕ, Bool, not, ◌&&◌, ◌||◌, ◌==◌, nat_le, List, [], ◌∷◌, true, false}
 use Rattle.std.specs.Char.{is_ascii_digit, is_ascii_alphabetic}

@@ -1,5 +1,7 @@
 -- A whole text as its lexemes, its tokens, its first bad lexeme and its commands.
-use Rattle.std.specs.Prelude.{◌≡◌, ℕ, ◌+◌, ◌<◌, ◌≤◌, Bool, true, false, ◌&&◌, List, [], ◌∷◌, ◌++◌, length, drop, min, if◌then◌else◌, Option, Some, None, Result, Ok, Err, IfOk}
+use Rattle.std.specs.Prelude.{◌≡◌, ℕ, ◌+◌, ◌<◌, ◌≤◌, Bool, true, false, ◌&&◌, List, [], ◌∷◌, ◌++◌}
+use Rattle.std.specs.Prelude.{length, drop, min, if◌then◌else◌, Option, Some, None, Result, Ok, Err}
+use Rattle.std.specs.Prelude.{IfOk}
 use Rattle.pl_lex.specs.Characters.{Text}
 use Rattle.pl_lex.specs.Rows.{Row}
 use Rattle.pl_lex.specs.declared.token.LexemeKind.{LexemeKind}
@@ -18,7 +20,8 @@ use Rattle.pl_lex.specs.declared.token.Piece.{Piece}
 -- a row that stands at the front of a text, where none that stands there is longer
 pub record Longest (what : LexemeKind) (front rest : Text) : Type 0 where
   pub stands : Row what front rest
-  pub longest : (other : LexemeKind) (longer after : Text) → longer ++ after ≡ front ++ rest → Row other longer after → length longer ≤ length front
+  pub longest : (other : LexemeKind) (longer after : Text) → longer ++ after ≡ front ++ rest
+      → Row other longer after → length longer ≤ length front
 
 -- a lexeme, with the place of its first byte and of the byte behind its last
 pub record Lexeme : Type 0 where
@@ -26,10 +29,13 @@ pub record Lexeme : Type 0 where
   pub start : ℕ
   pub end : ℕ
 
--- the text, which begins at a place, is these lexemes one after the other, each the longest that stands there
+-- the text, which begins at a place, is these lexemes one after the other, each the longest that
+-- stands there
 abbrev pub Stand : ℕ → List Lexeme → Text → Type 0
 Stand at [] text = text ≡ []
-Stand at (x ∷ xs) text = (front : Text) × (rest : Text) × (text ≡ front ++ rest) × (x.start ≡ at) × (x.end ≡ at + length front) × Longest x.what front rest × Stand x.end xs rest
+Stand at (x ∷ xs) text =
+    (front : Text) × (rest : Text) × (text ≡ front ++ rest) × (x.start ≡ at)
+    × (x.end ≡ at + length front) × Longest x.what front rest × Stand x.end xs rest
 
 -- ---- tokens
 
@@ -57,11 +63,14 @@ first_bad (x ∷ xs) = or_bad x.what x.start (first_bad xs)
 
 -- the text is these tokens, with blanks and comments between them, and nothing in it is bad
 abbrev pub Lexemes : List Token → Text → Type 0
-Lexemes tokens text = (all : List Lexeme) × Stand 0 all text × (first_bad all ≡ None) × (tokens_of all ≡ tokens)
+Lexemes tokens text =
+    (all : List Lexeme) × Stand 0 all text × (first_bad all ≡ None) × (tokens_of all ≡ tokens)
 
 -- the first bad lexeme of the text
 abbrev pub IsBad : ℕ → State → Text → Type 0
-IsBad at state text = (all : List Lexeme) × Stand 0 all text × (first_bad all ≡ Some (record { at = at; state = state }))
+IsBad at state text =
+    (all : List Lexeme) × Stand 0 all text
+    × (first_bad all ≡ Some (record { at = at; state = state }))
 
 -- what a failure of `lex` says of the text
 abbrev pub IsFailure : LexFail → Text → Type 0
@@ -99,8 +108,9 @@ piece tokens bad start end = record { tokens = outcome_by bad tokens; start = st
 abbrev pub piece_of : List Lexeme → ℕ → ℕ → Piece
 piece_of all start end = piece (tokens_of all) (first_bad all) start end
 
--- The commands of lexemes, which begin at a place: one up to each `;`, and one more where more than blanks and comments follow the last
--- `;`, up to the end. `before` are the lexemes of the first command that were passed.
+-- The commands of lexemes, which begin at a place: one up to each `;`, and one more where more than
+-- blanks and comments follow the last `;`, up to the end. `before` are the lexemes of the first
+-- command that were passed.
 abbrev pub pieces_from : ℕ → ℕ → List Lexeme → List Lexeme → List Piece
 pieces_from end from before [] = if all_skipped before then [] else piece_of before from end ∷ []
 pieces_from end from before (x ∷ xs) =
@@ -109,7 +119,8 @@ pieces_from end from before (x ∷ xs) =
 
 -- the commands of a text
 abbrev pub Commands : List Piece → Text → Type 0
-Commands pieces text = (all : List Lexeme) × Stand 0 all text × (pieces_from (length text) 0 [] all ≡ pieces)
+Commands pieces text =
+    (all : List Lexeme) × Stand 0 all text × (pieces_from (length text) 0 [] all ≡ pieces)
 
 -- ---- where tokens stand
 
@@ -124,9 +135,11 @@ pub record IsSpelled (text : Text) (token : Token) : Type 0 where
 -- the tokens stand in the text in order, between two places, each spelled from its start to its end
 abbrev pub StandIn : Text → ℕ → ℕ → List Token → Type 0
 StandIn text from end [] = from ≤ end
-StandIn text from end (t ∷ ts) = (from ≤ t.start) × (t.start < t.end) × IsSpelled text t × StandIn text t.end end ts
+StandIn text from end (t ∷ ts) =
+    (from ≤ t.start) × (t.start < t.end) × IsSpelled text t × StandIn text t.end end ts
 
--- the command was looked for at a place, and stands in the text from there to its end with its tokens
+-- the command was looked for at a place, and stands in the text from there to its end with its
+-- tokens
 pub record IsPlaced (text : Text) (from : ℕ) (p : Piece) : Type 0 where
   pub start : p.start ≡ from
   pub begins : from ≤ p.end
@@ -147,14 +160,18 @@ command_end end (x ∷ xs) = if is_semicolon x.what then x.start else command_en
 
 -- the command at the front of lexemes, if they are more than blanks and comments
 abbrev pub next_command : ℕ → ℕ → List Lexeme → Option Piece
-next_command from end all = if all_skipped all then None else Some (piece_of (before_semicolon all) from (command_end end all))
+next_command from end all =
+    if all_skipped all then None
+    else Some (piece_of (before_semicolon all) from (command_end end all))
 
 -- the command that begins at a place of a text
 abbrev pub IsNext : Text → ℕ → Option Piece → Type 0
-IsNext text from next = (all : List Lexeme) × Stand from all (drop from text) × (next_command from (length text) all ≡ next)
+IsNext text from next =
+    (all : List Lexeme) × Stand from all (drop from text)
+    × (next_command from (length text) all ≡ next)
 
--- Cutting gives these commands from a place on: each is the next one there, and the one after it is looked for behind its `;`, or at the
--- end of the text.
+-- Cutting gives these commands from a place on: each is the next one there, and the one after it is
+-- looked for behind its `;`, or at the end of the text.
 abbrev pub Cuts : Text → ℕ → List Piece → Type 0
 Cuts text from [] = IsNext text from None
 Cuts text from (p ∷ ps) = IsNext text from (Some p) × Cuts text (min (p.end + 1) (length text)) ps

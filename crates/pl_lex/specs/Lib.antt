@@ -1,6 +1,9 @@
 pub mod Characters
+pub mod Keywords
 pub mod Spellings
 pub mod Rows
 pub mod Lexemes
 pub mod Scan
+pub mod Computed
 pub mod Steps
+pub mod Slices

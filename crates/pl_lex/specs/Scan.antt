@@ -1,9 +1,17 @@
--- The lexeme at the front, computed from the left as the code does. Nobody has to believe it: `lex` and `cut` are stated by `Lexemes`.
-use Rattle.std.specs.Prelude.{◌≤◌, ◌≡◌, ℕ, Bool, true, false, not, ◌&&◌, ◌||◌, ◌==◌, nat_le, ◌+◌, ◌-◌, [], ◌∷◌, length, map, take, drop, slice_index, if◌then◌else◌, Option, Some, None}
+-- The lexeme at the front of a text, computed from the left as the code does. Nobody has to believe
+-- it: what counts is the relation `Row`, and `lex` and `cut` are stated by `Lexemes`.
+use Rattle.std.specs.Prelude.{◌≤◌, ◌≡◌, ℕ, Bool, true, false, not, ◌&&◌, ◌||◌, ◌==◌, nat_le, ◌+◌}
+use Rattle.std.specs.Prelude.{◌-◌, [], ◌∷◌, length, map, take, drop, slice_index, if◌then◌else◌}
+use Rattle.std.specs.Prelude.{Option, Some, None, List}
 use Rattle.std.specs.List.{prefix_len}
 use Rattle.std.specs.Char.{is_ascii_digit, to_ascii_lowercase}
+use Rattle.std.specs.Str.{bytes_eq}
 use Rattle.pl_lex.specs.Characters.{Text, is_blank, begins_word, goes_on, is_of_tag, is_of_line}
-use Rattle.pl_lex.specs.Spellings.{number, kind_of_word, opens, closes, escape, is_refused}
+use Rattle.pl_lex.specs.Keywords.{keyword_text}
+use Rattle.pl_lex.specs.Spellings.{number, opens, closes, escape, is_refused}
+use Rattle.pl_lex.specs.declared.keyword.Keyword.{Keyword}
+use Rattle.pl_lex.specs.declared.keyword.Keyword.TheVariants as k
+use Rattle.pl_lex.specs.declared.token.TokenKind.{TokenKind}
 use Rattle.pl_lex.specs.declared.token.LexemeKind.{LexemeKind}
 use Rattle.pl_lex.specs.declared.token.LexemeKind.TheVariants.{Read, Skipped, Bad}
 use Rattle.pl_lex.specs.declared.escapes.Pending.{Pending}
@@ -12,7 +20,8 @@ use Rattle.pl_lex.specs.declared.scan.Shape.{Shape}
 use Rattle.pl_lex.specs.declared.scan.Shape.TheVariants as shape
 use Rattle.pl_lex.specs.declared.sign.Sign.{Sign}
 use Rattle.pl_lex.specs.declared.sign.Sign.TheVariants as sign
-use Rattle.pl_base.specs.declared.state.TheConstants.State.{SYNTAX_ERROR, NAME_TOO_LONG, FEATURE_NOT_SUPPORTED, NUMERIC_VALUE_OUT_OF_RANGE}
+use Rattle.pl_base.specs.States.{SYNTAX_ERROR, NAME_TOO_LONG, FEATURE_NOT_SUPPORTED}
+use Rattle.pl_base.specs.States.{NUMERIC_VALUE_OUT_OF_RANGE}
 use Rattle.pl_lex.specs.declared.token.TokenKind.TheVariants as kind
 
 -- a shape, and a length in bytes
@@ -21,12 +30,14 @@ Found = Shape × ℕ
 
 -- ---- quotes
 
--- The place after the closing quote, from a place on. `pending`: the byte before is a quote that closes unless another follows.
+-- The place after the closing quote, from a place on. `pending`: the byte before is a quote that
+-- closes unless another follows.
 abbrev pub close_quote : ℕ → Bool → ℕ → Text → Option ℕ
 close_quote quote false at [] = None
 close_quote quote true at [] = Some at
 close_quote quote false at (b ∷ bs) = close_quote quote (b == quote) (at + 1) bs
-close_quote quote true at (b ∷ bs) = if b == quote then close_quote quote false (at + 1) bs else Some at
+close_quote quote true at (b ∷ bs) =
+    if b == quote then close_quote quote false (at + 1) bs else Some at
 
 -- without the second quote of each pair
 abbrev pub undoubled : ℕ → Bool → Text → Text
@@ -67,7 +78,8 @@ close_escape_text Nothing at [] = None
 close_escape_text Quote at [] = Some at
 close_escape_text Backslash at [] = None
 close_escape_text Nothing at (b ∷ bs) = close_escape_text (opened_by b) (at + 1) bs
-close_escape_text Quote at (b ∷ bs) = if b == 39 then close_escape_text Nothing (at + 1) bs else Some at
+close_escape_text Quote at (b ∷ bs) =
+    if b == 39 then close_escape_text Nothing (at + 1) bs else Some at
 close_escape_text Backslash at (b ∷ bs) = close_escape_text Nothing (at + 1) bs
 
 -- a backslash stands before a character before which it is not read
@@ -80,7 +92,8 @@ has_refused Backslash (b ∷ bs) = is_refused b || has_refused Nothing bs
 -- the text with one quote for each pair, and with what each backslash stands for
 abbrev pub unescaped : Pending → Text → Text
 unescaped state [] = []
-unescaped Nothing (b ∷ bs) = if b == 92 then unescaped (opened_by b) bs else b ∷ unescaped (opened_by b) bs
+unescaped Nothing (b ∷ bs) =
+    if b == 92 then unescaped (opened_by b) bs else b ∷ unescaped (opened_by b) bs
 unescaped Quote (b ∷ bs) = unescaped Nothing bs
 unescaped Backslash (b ∷ bs) = escape b ∷ unescaped Nothing bs
 
@@ -90,13 +103,15 @@ escape_text t = ended shape.EscapeText (length t) (close_escape_text Nothing 2 (
 
 -- ---- comments
 
--- The place after the end of the last of n open comments. `skip`: the next byte is the second of a pair.
+-- The place after the end of the last of n open comments. `skip`: the next byte is the second of a
+-- pair.
 abbrev pub close_comment : ℕ → Bool → ℕ → Text → Option ℕ
 close_comment n skip at [] = None
 close_comment n true at (b ∷ bs) = close_comment n false (at + 1) bs
 close_comment n false at (b ∷ bs) =
     if opens b (slice_index bs 0) then close_comment (n + 1) true (at + 1) bs
-    else (if closes b (slice_index bs 0) then (if nat_le n 1 then Some (at + 2) else close_comment (n - 1) true (at + 1) bs)
+    else (if closes b (slice_index bs 0)
+    then (if nat_le n 1 then Some (at + 2) else close_comment (n - 1) true (at + 1) bs)
     else close_comment n false (at + 1) bs)
 
 -- a comment between `/*` and `*/`
@@ -127,17 +142,22 @@ marked n len (Some at) = (shape.DollarText n, at + n)
 
 -- a parameter of this number
 abbrev pub parameter_shape : ℕ → Shape
-parameter_shape n = if nat_le 1 n && nat_le n 65535 then shape.Parameter n else shape.Bad SYNTAX_ERROR
+parameter_shape n =
+    if nat_le 1 n && nat_le n 65535 then shape.Parameter n else shape.Bad SYNTAX_ERROR
 
 -- a parameter, or a lone `$`
 abbrev pub parameter : Text → Found
 parameter t =
     let n = prefix_len is_ascii_digit (drop 1 t) in
-    if n == 0 then (shape.Bad SYNTAX_ERROR, 1) else (parameter_shape (number (take n (drop 1 t))), n + 1)
+    if n == 0 then (shape.Bad SYNTAX_ERROR, 1)
+    else (parameter_shape (number (take n (drop 1 t))), n + 1)
 
 -- a dollar text or a parameter, by the length of the tag
 abbrev pub dollar_with : ℕ → Text → Found
-dollar_with n t = if slice_index t (n + 1) == 36 then marked (n + 2) (length t) (find_mark (take (n + 2) t) (n + 2) (drop (n + 2) t)) else parameter t
+dollar_with n t =
+    if slice_index t (n + 1) == 36
+    then marked (n + 2) (length t) (find_mark (take (n + 2) t) (n + 2) (drop (n + 2) t))
+    else parameter t
 
 -- what begins with `$`
 abbrev pub dollar : Text → Found
@@ -151,13 +171,15 @@ word t = (shape.Word, prefix_len goes_on t)
 
 -- a number, if it is not too great
 abbrev pub number_shape : ℕ → Shape
-number_shape n = if nat_le n 9223372036854775808 then shape.Number n else shape.Bad NUMERIC_VALUE_OUT_OF_RANGE
+number_shape n =
+    if nat_le n 9223372036854775808 then shape.Number n else shape.Bad NUMERIC_VALUE_OUT_OF_RANGE
 
 -- n digits, and what follows them
 abbrev pub number_with : ℕ → Text → Text → Found
 number_with n digits after =
     if goes_on (slice_index after 0) then (shape.Bad SYNTAX_ERROR, n + prefix_len goes_on after)
-    else (if slice_index after 0 == 46 && not (slice_index after 1 == 46) then (shape.Bad FEATURE_NOT_SUPPORTED, n + 1 + prefix_len is_ascii_digit (drop 1 after))
+    else (if slice_index after 0 == 46 && not (slice_index after 1 == 46)
+    then (shape.Bad FEATURE_NOT_SUPPORTED, n + 1 + prefix_len is_ascii_digit (drop 1 after))
     else (number_shape (number digits), n))
 
 -- what begins with a digit
@@ -219,9 +241,43 @@ abbrev pub punctuation : ℕ → ℕ → Text → Found
 punctuation b c t =
     if b == 45 && c == 45 then (shape.Skipped, 2 + prefix_len is_of_line (drop 2 t))
     else (if opens b c then comment t
-    else (if b == 46 && is_ascii_digit c then (shape.Bad FEATURE_NOT_SUPPORTED, 1 + prefix_len is_ascii_digit (drop 1 t))
+    else (if b == 46 && is_ascii_digit c
+    then (shape.Bad FEATURE_NOT_SUPPORTED, 1 + prefix_len is_ascii_digit (drop 1 t))
     else (if b == 33 && c == 61 then (shape.Sign sign.NotEqual, 2)
     else sign_found b c)))
+
+-- ---- reserved words
+
+-- every reserved word
+abbrev pub all_keywords : List Keyword
+all_keywords =
+    k.All ∷ k.And ∷ k.As ∷ k.Asc ∷ k.Begin ∷ k.Between ∷ k.By ∷ k.Case ∷ k.Cast ∷ k.Check ∷
+    k.Coalesce ∷ k.Constraint ∷ k.Create ∷ k.Cross ∷ k.Declare ∷ k.Default ∷ k.Delete ∷ k.Desc ∷
+    k.Distinct ∷ k.Do ∷ k.Else ∷ k.End ∷ k.Execute ∷ k.Exists ∷ k.False ∷ k.For ∷ k.Foreign ∷
+    k.From ∷ k.Greatest ∷ k.Group ∷ k.Having ∷ k.If ∷ k.In ∷ k.Inner ∷ k.Insert ∷ k.Into ∷ k.Is ∷
+    k.Join ∷ k.Least ∷ k.Left ∷ k.Like ∷ k.Limit ∷ k.Loop ∷ k.Not ∷ k.Null ∷ k.Nullif ∷ k.Offset ∷
+    k.On ∷ k.Or ∷ k.Order ∷ k.Primary ∷ k.References ∷ k.Returning ∷ k.Row ∷ k.Select ∷ k.Strict ∷
+    k.Table ∷ k.Then ∷ k.To ∷ k.True ∷ k.Union ∷ k.Unique ∷ k.Update ∷ k.Using ∷ k.Values ∷ k.When ∷
+    k.Where ∷ k.While ∷ k.With ∷ []
+
+-- the reserved word that is spelled so, among some
+abbrev pub keyword_among : List Keyword → Text → Option Keyword
+keyword_among [] text = None
+keyword_among (word ∷ words) text =
+    if bytes_eq (keyword_text word) text then Some word else keyword_among words text
+
+-- the reserved word that is spelled so
+unfoldable pub keyword_of : Text → Option Keyword
+keyword_of text = keyword_among all_keywords text
+
+-- a word in lower case that is this keyword, or none
+abbrev pub named : Text → Option Keyword → TokenKind
+named text None = kind.Word text
+named text (Some word) = kind.Keyword word
+
+-- a word in lower case
+abbrev pub kind_of_word : Text → TokenKind
+kind_of_word text = named text (keyword_of text)
 
 -- ---- the lexeme
 
@@ -240,11 +296,16 @@ scan t =
 
 -- a word by its spelling
 abbrev pub word_meaning : Text → LexemeKind
-word_meaning f = if nat_le (length f) 63 then Read (kind_of_word (map to_ascii_lowercase f)) else Bad NAME_TOO_LONG
+word_meaning f =
+    if nat_le (length f) 63 then Read (kind_of_word (map to_ascii_lowercase f))
+    else Bad NAME_TOO_LONG
 
 -- by the name itself
 abbrev pub name_meaning : Text → LexemeKind
-name_meaning name = if nat_le (length name) 63 then (if length name == 0 then Bad SYNTAX_ERROR else Read (kind.Quoted name)) else Bad NAME_TOO_LONG
+name_meaning name =
+    if nat_le (length name) 63
+    then (if length name == 0 then Bad SYNTAX_ERROR else Read (kind.Quoted name))
+    else Bad NAME_TOO_LONG
 
 -- a quoted name by what stands between its quotes
 abbrev pub quoted_meaning : Text → LexemeKind
@@ -252,7 +313,9 @@ quoted_meaning contents = name_meaning (undoubled 34 false contents)
 
 -- an E-text by what stands between its quotes
 abbrev pub escape_meaning : Text → LexemeKind
-escape_meaning contents = if has_refused Nothing contents then Bad FEATURE_NOT_SUPPORTED else Read (kind.EscapeText (unescaped Nothing contents))
+escape_meaning contents =
+    if has_refused Nothing contents then Bad FEATURE_NOT_SUPPORTED
+    else Read (kind.EscapeText (unescaped Nothing contents))
 
 -- what a lexeme of this shape is
 abbrev pub meaning : Shape → Text → LexemeKind

@@ -1,30 +1,11 @@
 -- How the values of tokens are spelled (PostgreSQL's manual, "Lexical Structure").
 use Prim.Native.Char.{code}
-use Rattle.std.specs.Prelude.{◌≡◌, ℕ, suc, zero, Bool, true, false, not, ◌&&◌, ◌||◌, ◌==◌, nat_le, ◌+◌, ◌-◌, ◌*◌, List, [], ◌∷◌, ◌++◌, if◌then◌else◌, Option, Some, None, map, codes}
-use Rattle.std.specs.Str.{bytes_eq}
+use Rattle.std.specs.Prelude.{◌≡◌, ℕ, suc, zero, Bool, true, false, not, ◌&&◌, ◌||◌, ◌==◌, nat_le}
+use Rattle.std.specs.Prelude.{◌+◌, ◌-◌, ◌*◌, List, [], ◌∷◌, ◌++◌, if◌then◌else◌, Option, Some, None}
+use Rattle.std.specs.Prelude.{codes}
 use Rattle.pl_lex.specs.Characters.{Text, quote, backslash, dollar}
 use Rattle.pl_lex.specs.declared.sign.Sign.{Sign}
 use Rattle.pl_lex.specs.declared.sign.Sign.TheVariants as sign
-use Rattle.pl_lex.specs.declared.keyword.Keyword.{Keyword}
-use Rattle.pl_lex.specs.declared.keyword.TheConstants.{KEYWORDS}
-use Rattle.pl_lex.specs.declared.token.TokenKind.{TokenKind}
-use Rattle.pl_lex.specs.declared.token.TokenKind.TheVariants as kind
-
--- ---- words
-
--- the keyword that is spelled so, by a table
-abbrev pub lookup : List (Text × Keyword) → Text → Option Keyword
-lookup [] word = None
-lookup (r ∷ rs) word = if bytes_eq r.0 word then Some r.1 else lookup rs word
-
--- a word that is this keyword, or none
-abbrev pub named : Text → Option Keyword → TokenKind
-named word None = kind.Word word
-named word (Some keyword) = kind.Keyword keyword
-
--- a word in lower case is the keyword that the table `KEYWORDS` has for it, or else a name
-unfoldable pub kind_of_word : Text → TokenKind
-kind_of_word word = named word (lookup (map (λ r. (r.0.now, r.1)) KEYWORDS) word)
 
 -- ---- numbers
 
@@ -50,7 +31,8 @@ doubled q (b ∷ bs) = if b == q then q ∷ q ∷ doubled q bs else b ∷ double
 
 -- ---- texts with backslashes
 
--- a part of the contents of such a text: a plain character, two quotes, or a backslash and a character
+-- a part of the contents of such a text: a plain character, two quotes, or a backslash and a
+-- character
 pub data Part : Type 0 where
   plain : ℕ → Part
   quotes : Part
@@ -96,7 +78,8 @@ value_of_part (Part.escaped b) = escape b
 
 -- the digits 0 to 7, `x`, `u` and `U`: octal, hexadecimal and Unicode values
 abbrev pub is_refused : ℕ → Bool
-is_refused b = (nat_le (code "0") b && nat_le b (code "7")) || b == code "x" || b == code "u" || b == code "U"
+is_refused b =
+    (nat_le (code "0") b && nat_le b (code "7")) || b == code "x" || b == code "u" || b == code "U"
 
 -- some backslash stands before one of them
 abbrev pub any_refused : List Part → Bool

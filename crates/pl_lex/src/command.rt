@@ -1,9 +1,12 @@
 //! A text as commands.
 
-ghost use Rattle.std.specs.Prelude.{◌≡◌, ◌≤◌, ◌&&◌, List as Items, length, IfOk, IfSome};
+ghost use Rattle.std.specs.Prelude.{ℕ, ◌≡◌, ◌≤◌, ◌&&◌, ◌++◌, List as Items, length, Some, Ok, IfOk};
+ghost use Rattle.std.specs.Prelude.{IfSome};
 ghost use Rattle.pl_lex.specs.Lexemes as spec;
 ghost use Rattle.pl_lex.specs.Characters.{Text};
-ghost use Rattle.pl_lex.specs.Lexemes.{IsNext, IsPlaced, Commands, Cuts};
+ghost use Rattle.pl_lex.specs.Lexemes.{Lexemes, IsNext, IsPlaced, Commands, Cuts};
+ghost use Rattle.pl_lex.specs.Slices.{slice_of, by_themselves};
+ghost use Rattle.pl_lex.specs.declared.token.Token.{Token as OneToken};
 ghost use Rattle.pl_lex.specs.declared.token.Piece.{Piece as OnePiece};
 ghost use Rattle.pl_lex.specs.Steps.{Gathered};
 
@@ -113,5 +116,18 @@ pub fn cut(alloc: Global, text: &str, from: usize) -> Result<Option<Piece>, Memo
 /// The commands that `cut` gives, each from the byte behind the `;` of the one before, are those of
 /// the whole text.
 pub fn commands_join()
-    ensures { (text : Text) (pieces : Items OnePiece) → Commands pieces text → Cuts text 0 pieces }
+    ensures { (text : Text) (pieces : Items OnePiece) →
+        Commands pieces text → Cuts text 0 pieces }
+{}
+
+/// The text from the first byte of a token of a command to the last byte of a later one, or the
+/// same one, has these tokens by itself, with their places counted from its own first byte.
+pub fn slices_lex_alike()
+    ensures lexed { (text : Text) (from : ℕ) (p : OnePiece) (before these after : Items OneToken) →
+        IsNext text from (Some p) → p.tokens ≡ Ok (before ++ (these ++ after)) →
+        Lexemes (by_themselves these) (slice_of text these) }
+    // These tokens are of the whole of it.
+    ensures whole { (text : Text) (from : ℕ) (p : OnePiece) (before these after : Items OneToken) →
+        IsNext text from (Some p) → p.tokens ≡ Ok (before ++ (these ++ after)) →
+        slice_of (slice_of text these) (by_themselves these) ≡ slice_of text these }
 {}

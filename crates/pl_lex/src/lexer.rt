@@ -3,6 +3,7 @@
 ghost use Rattle.std.specs.Prelude.{ℕ, ◌≡◌, ◌≤◌, ◌++◌, length, drop, IfOk, IfErr, List, [], ◌∷◌};
 ghost use Rattle.pl_lex.specs.Characters.{Text};
 ghost use Rattle.pl_lex.specs.Lexemes.{Lexeme, Stand, Lexemes, StandIn, IsFailure};
+ghost use Rattle.pl_lex.specs.Computed.{lexemes};
 ghost use Rattle.pl_lex.specs.Steps.{Kept, FailsBy};
 ghost use Rattle.pl_lex.specs.declared.token.Token.{Token as OneToken};
 
@@ -65,7 +66,8 @@ pub fn after(text: &[u8], len: usize) -> &[u8]
 pub fn lex(alloc: Global, text: &str) -> Result<Vec<Token>, LexFail>
     ensures found { IfOk result (λ v. Lexemes v.items text.now) }
     // No other tokens spell it.
-    ensures only { IfOk result (λ v. (other : List OneToken) → Lexemes other text.now → other ≡ v.items) }
+    ensures only { IfOk result (λ v. (other : List OneToken) →
+        Lexemes other text.now → other ≡ v.items) }
     ensures placed { IfOk result (λ v. StandIn text.now 0 (length text.now) v.items) }
     // `Bad` is the first bad lexeme of the text.
     ensures bad { IfErr result (λ e. IsFailure e text.now) }
@@ -88,9 +90,10 @@ pub fn lex(alloc: Global, text: &str) -> Result<Vec<Token>, LexFail>
     Ok(tokens)
 }
 
-/// Each text has exactly one list of lexemes. So there is one answer to `Lexemes`, `IsBad` and
-/// `IsNext`.
+/// Each text has exactly one list of lexemes, the one that `lexemes` computes. So there is one
+/// answer to `Lexemes`, `IsBad` and `IsNext`.
 pub fn one_reading()
-    ensures one { (at : ℕ) (xs ys : List Lexeme) (text : Text) → Stand at xs text → Stand at ys text → xs ≡ ys }
-    ensures some { (at : ℕ) (text : Text) → (xs : List Lexeme) × Stand at xs text }
+    ensures one { (at : ℕ) (xs ys : List Lexeme) (text : Text) →
+        Stand at xs text → Stand at ys text → xs ≡ ys }
+    ensures computed { (at : ℕ) (text : Text) → Stand at (lexemes at text) text }
 {}

@@ -19,8 +19,8 @@ mod tests;
 mod token;
 mod utf8;
 
-pub use command::{commands_join, cut};
-pub use keyword::Keyword;
+pub use command::{commands_join, cut, slices_lex_alike};
+pub use keyword::{Keyword, keyword_text};
 pub use lexer::{LexFail, lex, one_reading};
 pub use sign::Sign;
 pub use token::{Bad, Piece, Token, TokenKind};

@@ -4,7 +4,6 @@ ghost use Rattle.std.specs.Prelude.{◌≡◌, ◌<◌, ◌≤◌, IfSome, IfNon
 ghost use Rattle.std.specs.Char.{is_ascii_digit};
 ghost use Rattle.pl_lex.specs.Characters as class;
 ghost use Rattle.pl_lex.specs.Spellings as spelling;
-ghost use Rattle.pl_lex.specs.declared.numbers.TheConstants.{GREATEST};
 
 /// The greatest number that is read: 2 to the 63rd, which behind a minus is the least `bigint`.
 pub const GREATEST: u64 = 9223372036854775808;
@@ -14,8 +13,8 @@ pub const GREATEST: u64 = 9223372036854775808;
 pub fn number(digits: &[u8]) -> Option<u64>
     requires { class.every is_ascii_digit digits.now ≡ true }
     ensures found { IfSome result (λ n. n ≡ spelling.number digits.now) }
-    ensures within { IfSome result (λ n. n ≤ GREATEST) }
-    ensures greater { IfNone result (GREATEST < spelling.number digits.now) }
+    ensures within { IfSome result (λ n. n ≤ 9223372036854775808) }
+    ensures greater { IfNone result (9223372036854775808 < spelling.number digits.now) }
 {
     let mut number: u64 = 0;
     for b in digits {

@@ -2,35 +2,21 @@
 
 ghost use Rattle.std.specs.Prelude.{◌≡◌, ◌<◌, ◌≤◌, ◌^◌, ◌⊎◌, length, map, IfOk, IfNone, IfSome};
 ghost use Rattle.std.specs.Char.{to_ascii_lowercase};
-ghost use Rattle.pl_lex.specs.Spellings.{kind_of_word, lookup};
 ghost use Rattle.pl_lex.specs.Scan as spec;
-ghost use Rattle.pl_lex.specs.Scan.{IsRead};
+ghost use Rattle.pl_lex.specs.Scan.{IsRead, kind_of_word};
 
 use crate::escapes::{has_refused, unescaped};
-use crate::keyword::{KEYWORDS, Keyword};
+use crate::keyword::keyword_named;
 use crate::quotes::{inner, undoubled, undoubled_len};
 use crate::scan::{Shape, scan};
 use crate::token::{LexemeKind, TokenKind};
 use pl_base::{Name, State, Txt};
 use std::alloc::{AllocError, Global};
 
-fn keyword(mut table: &[(&[u8], Keyword)], word: &[u8]) -> Option<Keyword>
-    ensures { result ≡ lookup (map (λ r. (r.0.now, r.1)) table.entry.now) word.now }
-{
-    while let [entry, rest @ ..] = table {
-        if entry.0 == word {
-            return Some(entry.1);
-        }
-        table = rest;
-    }
-    None
-}
-
-#[tactic(auto, unfolding(crate::specs::Spellings::kind_of_word))]
 fn name_or_keyword(word: Name) -> TokenKind
     ensures { result ≡ kind_of_word word }
 {
-    match keyword(&KEYWORDS, word.as_bytes()) {
+    match keyword_named(word.as_bytes()) {
         None => TokenKind::Word(word),
         Some(keyword) => TokenKind::Keyword(keyword),
     }

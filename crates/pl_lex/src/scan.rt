@@ -169,7 +169,8 @@ fn sign(b: u8, c: u8) -> Found
 
 fn punctuation(text: &[u8]) -> Found
     requires { (1 ≤ length text.now) × (length text.now < 2 ^ 63) }
-    ensures value { result ≡ spec.punctuation (slice_index text.now 0) (slice_index text.now 1) text.now }
+    ensures value { result ≡
+        spec.punctuation (slice_index text.now 0) (slice_index text.now 1) text.now }
     ensures within { IsFound result text.now }
 {
     let (b, c) = (text[0], byte(text, 1));

@@ -20,4 +20,5 @@ count_line n = if n == 1 then codes "(1 row)\n" else codes "(" ++ (decimal n ++ 
 
 -- the headings, the rows and their count
 abbrev pub grid_bytes : Grid → List ℕ
-grid_bytes grid = heading_line grid.heads ++ (flat_map row_line grid.rows ++ count_line (length grid.rows))
+grid_bytes grid =
+    heading_line grid.heads ++ (flat_map row_line grid.rows ++ count_line (length grid.rows))

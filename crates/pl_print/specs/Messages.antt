@@ -19,7 +19,8 @@ labelled_if_given label (Some text) = labelled label text
 
 -- the lines below an error or a notice
 abbrev pub parts : Option (List ℕ) → Option (List ℕ) → List ℕ
-parts detail hint = labelled_if_given (codes "DETAIL") detail ++ labelled_if_given (codes "HINT") hint
+parts detail hint =
+    labelled_if_given (codes "DETAIL") detail ++ labelled_if_given (codes "HINT") hint
 
 -- the word of a level
 abbrev pub level_label : Level → List ℕ
@@ -47,4 +48,7 @@ message_text code (Text text) = text
 
 -- an error with its SQLSTATE, its detail and its hint
 abbrev pub fail_bytes : Fail → List ℕ
-fail_bytes fail = labelled (codes "ERROR") (fail.state.code ++ (codes ": " ++ message_text fail.state.code fail.message)) ++ parts fail.detail fail.hint
+fail_bytes fail =
+    labelled (codes "ERROR")
+    (fail.state.code ++ (codes ": " ++ message_text fail.state.code fail.message))
+    ++ parts fail.detail fail.hint

@@ -2,7 +2,12 @@
 use Rattle.std.specs.Prelude.{ℕ, List, ◌++◌, codes}
 use Rattle.std.specs.Fmt.{decimal}
 use Rattle.pl_print.specs.declared.reply.Tag.{Tag}
-use Rattle.pl_print.specs.declared.reply.Tag.TheVariants.{Insert, Update, Delete, CreateTable, CreateFunction, CreateProcedure, CreateTrigger, DropTable, DropFunction, DropProcedure, DropTrigger, Do, Call, Begin, StartTransaction, Commit, Rollback, Savepoint, Release}
+use Rattle.pl_print.specs.declared.reply.Tag.TheVariants.{Insert, Update, Delete, CreateTable}
+use Rattle.pl_print.specs.declared.reply.Tag.TheVariants.{CreateFunction, CreateProcedure}
+use Rattle.pl_print.specs.declared.reply.Tag.TheVariants.{CreateTrigger, DropTable, DropFunction}
+use Rattle.pl_print.specs.declared.reply.Tag.TheVariants.{DropProcedure, DropTrigger, Do, Call}
+use Rattle.pl_print.specs.declared.reply.Tag.TheVariants.{Begin, StartTransaction, Commit, Rollback}
+use Rattle.pl_print.specs.declared.reply.Tag.TheVariants.{Savepoint, Release}
 
 -- the words of a tag, and its count of rows
 abbrev pub tag_text : Tag → List ℕ

@@ -1,9 +1,11 @@
 -- The texts of values: PostgreSQL manual, "Boolean Type", "Composite Types".
-use Rattle.std.specs.Prelude.{ℕ, Bool, ◌==◌, ◌||◌, if◌then◌else◌, List, [], ◌∷◌, ◌++◌, codes, length}
+use Rattle.std.specs.Prelude.{ℕ, Bool, ◌==◌, ◌||◌, if◌then◌else◌, List, [], ◌∷◌, ◌++◌, codes}
+use Rattle.std.specs.Prelude.{length}
 use Rattle.std.specs.Fmt.{signed_decimal}
 use Rattle.std.specs.List.{list_any, flat_map, join_by}
 use Rattle.pl_base.specs.declared.value.Field.{Field, out-Field}
-use Rattle.pl_base.specs.declared.value.Value.{Value, Row', Row_of-Field, end_of-Field, more_of-Field}
+use Rattle.pl_base.specs.declared.value.Value.{Value, Row', Row_of-Field, end_of-Field}
+use Rattle.pl_base.specs.declared.value.Value.{more_of-Field}
 use Rattle.pl_base.specs.declared.value.Value.TheVariants.{Null, Int, Big, Text, Bool as Truth}
 
 -- space, tab, newline, vertical tab, form feed and carriage return
@@ -57,7 +59,8 @@ abbrev mutual
   -- further fields, each behind a comma
   pub after_commas : {m : _} → Row_of-Field m → List ℕ
   after_commas end_of-Field = []
-  after_commas (more_of-Field name ty v rest) = codes "," ++ (field_form v (output v) ++ after_commas rest)
+  after_commas (more_of-Field name ty v rest) =
+      codes "," ++ (field_form v (output v) ++ after_commas rest)
 
 -- the text of one field
 abbrev pub field_text : Field → List ℕ

@@ -2,7 +2,8 @@
 
 ghost use Rattle.std.specs.Prelude.{◌≡◌, ◌++◌, codes, IfOk, OnOk};
 ghost use Rattle.std.specs.List.{flat_map, join_by, list_any};
-ghost use Rattle.pl_print.specs.TextForm.{doubled, field_text, in_quotes, is_quote, is_special, needs_quotes, output, row_text};
+ghost use Rattle.pl_print.specs.TextForm.{doubled, field_text, in_quotes, is_quote, is_special};
+ghost use Rattle.pl_print.specs.TextForm.{needs_quotes, output, row_text};
 
 use pl_base::{Field, Memory, Txt, Value};
 use std::alloc::{AllocError, Global};
@@ -43,7 +44,8 @@ fn push_row(alloc: Global, out: &mut Vec<u8>, fields: &[Field]) -> Result<(), Al
 
 #[cycle(output)]
 fn push_fields(alloc: Global, out: &mut Vec<u8>, fields: &[Field]) -> Result<(), AllocError>
-    ensures { OnOk result (out.new.items ≡ out.old.items ++ join_by field_text (codes ",") fields.now) }
+    ensures { OnOk result
+        (out.new.items ≡ out.old.items ++ join_by field_text (codes ",") fields.now) }
 {
     let mut separator: &[u8] = b"";
     for field in fields {

@@ -1,8 +1,7 @@
 //! Results: a line of headings, the rows, and how many there are.
 
-ghost use Rattle.std.specs.Prelude.{◌≡◌, ◌++◌, codes, length, IfOk, OnOk};
+ghost use Rattle.std.specs.Prelude.{◌≡◌, ◌++◌, codes, IfOk, OnOk};
 ghost use Rattle.std.specs.List.{flat_map, join_by};
-ghost use Rattle.std.specs.Fmt.{decimal};
 ghost use Rattle.pl_print.specs.Grids.{count_line, grid_bytes, row_line};
 ghost use Rattle.pl_print.specs.TextForm.{output};
 
@@ -24,7 +23,8 @@ pub fn grid(alloc: Global, grid: &Grid) -> Result<Bytes, Memory>
 }
 
 fn push_headings(out: &mut Vec<u8>, heads: &[Txt]) -> Result<(), AllocError>
-    ensures { OnOk result (out.new.items ≡ out.old.items ++ join_by (λ head. head) (codes "|") heads.now) }
+    ensures { OnOk result
+        (out.new.items ≡ out.old.items ++ join_by (λ head. head) (codes "|") heads.now) }
 {
     let mut separator: &[u8] = b"";
     for head in heads {

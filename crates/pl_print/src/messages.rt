@@ -1,15 +1,17 @@
 //! Errors and notices (PostgreSQL manual, "Error and Notice Message Fields").
 
-ghost use Rattle.std.specs.Prelude.{◌≡◌, ◌++◌, codes, IfOk, OnOk};
+ghost use Rattle.std.specs.Prelude.{◌≡◌, ◌++◌, IfOk, OnOk};
 ghost use Rattle.std.specs.Option.{option_copied};
-ghost use Rattle.pl_print.specs.Messages.{condition_name, fail_bytes, labelled, labelled_if_given, level_label, message_text, notice_bytes, parts};
+ghost use Rattle.pl_print.specs.Messages.{condition_name, fail_bytes, labelled, labelled_if_given};
+ghost use Rattle.pl_print.specs.Messages.{level_label, message_text, notice_bytes, parts};
 
 use crate::Level;
 use pl_base::{Bytes, Fail, Memory, Message, State, Txt, name_of};
 use std::alloc::{AllocError, Global};
 
-/// `ERROR:  SQLSTATE: message`, then DETAIL and HINT where they are given, each on a line of its own.
-/// The message that stands for the condition is its name, and the SQLSTATE again where it has no name.
+/// `ERROR:  SQLSTATE: message`, then DETAIL and HINT where they are given, each on a line of its
+/// own. The message that stands for the condition is its name, and the SQLSTATE again where it has
+/// no name.
 pub fn fail(alloc: Global, fail: &Fail) -> Result<Bytes, Memory>
     ensures { IfOk result (λ bytes. bytes ≡ fail_bytes fail.now) }
 {
@@ -32,7 +34,8 @@ pub fn notice(
     hint: Option<&Txt>,
 ) -> Result<Bytes, Memory>
     ensures { IfOk result (λ bytes.
-        bytes ≡ notice_bytes level text.now (option_copied detail.entry) (option_copied hint.entry)) }
+        bytes ≡
+        notice_bytes level text.now (option_copied detail.entry) (option_copied hint.entry)) }
 {
     let mut out = Vec::new(alloc);
     push_labelled(&mut out, label(level), text)?;
@@ -51,7 +54,8 @@ fn label(level: Level) -> &'static str
 }
 
 fn push_message(out: &mut Vec<u8>, fail: &Fail) -> Result<(), AllocError>
-    ensures { OnOk result (out.new.items ≡ out.old.items ++ message_text fail.now.state.code fail.now.message) }
+    ensures { OnOk result
+        (out.new.items ≡ out.old.items ++ message_text fail.now.state.code fail.now.message) }
 {
     match &fail.message {
         Message::Standard => push_name(out, fail.state),
@@ -69,14 +73,16 @@ fn push_name(out: &mut Vec<u8>, state: State) -> Result<(), AllocError>
 }
 
 fn push_parts(out: &mut Vec<u8>, detail: Option<&Txt>, hint: Option<&Txt>) -> Result<(), AllocError>
-    ensures { OnOk result (out.new.items ≡ out.old.items ++ parts (option_copied detail.entry) (option_copied hint.entry)) }
+    ensures { OnOk result (out.new.items ≡
+        out.old.items ++ parts (option_copied detail.entry) (option_copied hint.entry)) }
 {
     push_if_given(out, "DETAIL", detail)?;
     push_if_given(out, "HINT", hint)
 }
 
 fn push_if_given(out: &mut Vec<u8>, label: &str, text: Option<&Txt>) -> Result<(), AllocError>
-    ensures { OnOk result (out.new.items ≡ out.old.items ++ labelled_if_given label.now (option_copied text.entry)) }
+    ensures { OnOk result (out.new.items ≡
+        out.old.items ++ labelled_if_given label.now (option_copied text.entry)) }
 {
     match text {
         Some(text) => push_labelled(out, label, text),

@@ -1,4 +1,5 @@
-//! Tags: what is printed of a command that is done (PostgreSQL manual, "Message Formats", CommandComplete).
+//! Tags: what is printed of a command that is done (PostgreSQL manual, "Message Formats",
+//! CommandComplete).
 
 ghost use Rattle.std.specs.Prelude.{◌≡◌, IfOk};
 ghost use Rattle.pl_print.specs.Tags.{tag_bytes};

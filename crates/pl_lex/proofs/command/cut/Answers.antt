@@ -2,7 +2,8 @@ use Rattle.std.proofs.Common.{ℕ, ◌+◌, ◌++◌, ◌&&◌, length, drop, le
 use Rattle.std.proofs.lemmas.Bool.{eqb-true}
 use Rattle.pl_lex.specs.Lexemes.{Lexeme, tokens_of, first_bad, before_semicolon, command_end, all_skipped, piece}
 use Rattle.pl_lex.specs.Steps.{or_else}
-use Rattle.pl_lex.proofs.Whole.{empty, lexemes, lexemes_nil}
+use Rattle.pl_lex.specs.Computed.{lexemes}
+use Rattle.pl_lex.proofs.Whole.{empty, lexemes_nil}
 use Rattle.pl_lex.proofs.Commands.{more_tokens, more_bad, more_end, more_blank, none_before, ends_here, not_blank, cut_some, cut_none}
 use Rattle.pl_lex.proofs.Placed.{next_placed}
 use Rattle.pl_lex.proofs.command.cut.Goals as goal

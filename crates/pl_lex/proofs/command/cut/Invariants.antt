@@ -1,7 +1,7 @@
 use Rattle.std.proofs.Common.{◌≡◌, ◌+◌, ◌++◌, ◌&&◌, length, drop}
 use Rattle.pl_lex.specs.Lexemes.{tokens_of, first_bad, before_semicolon, command_end, all_skipped}
 use Rattle.pl_lex.specs.Steps.{or_else}
-use Rattle.pl_lex.proofs.Whole.{lexemes}
+use Rattle.pl_lex.specs.Computed.{lexemes}
 use Rattle.pl_lex.proofs.command.cut.Given as goal
 
 abbrev pub invariant-loop-rest : goal.invariant-loop-rest

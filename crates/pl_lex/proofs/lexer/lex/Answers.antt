@@ -1,7 +1,8 @@
 use Rattle.std.proofs.Common.{◌+◌, ◌++◌, length, arith, ap, sym, ◌∙◌, List, ℕ, length-drop}
 use Rattle.std.proofs.lemmas.Bool.{eqb-true}
 use Rattle.pl_lex.specs.Lexemes.{tokens_of, first_bad}
-use Rattle.pl_lex.proofs.Whole.{empty, lexemes, lex_fails, lex_ends, lex_only, lex_step, lex_good}
+use Rattle.pl_lex.specs.Computed.{lexemes}
+use Rattle.pl_lex.proofs.Whole.{empty, lex_fails, lex_ends, lex_only, lex_step, lex_good}
 use Rattle.pl_lex.proofs.Placed.{lexemes_placed}
 use Rattle.pl_lex.proofs.lexer.lex.Goals as goal
 
