@@ -1,10 +1,10 @@
 -- The grammar passes the tests under which what it spells is read.
-use Rattle.std.proofs.Common.{◌≡◌, ◌||◌, Bool, true, false, refl}
+use Rattle.std.proofs.Common.{◌≡◌, ◌||◌, true, refl}
 use Rattle.pl_grammar.specs.Marks.{same_keyword, same_sign}
 use Rattle.pl_grammar.specs.Fit.{fits, guarded, included, stops, ranked}
 use Rattle.pl_grammar.specs.Rule.{nullable, starts}
 use Rattle.pl_expr_parse.specs.Grammar.{Part, Expression, Conjunction, Negation, Test, Question, Comparison, Ranged, Range, Members, Concatenation, Sum, Product, Signed, Conversion, Primary, Bracketed, TypeName, Expressions, BracketedList, Named, Suffix, Arguments, ArgumentList, Argument, NamedArgument, Worded, Exists, NullIf, BeforeComma, BeforeClose, Cast, Row, Case, Arms, Whens, Arm, Otherwise, Query, Selected, Items, Item, Label, Alias, Sources, Condition, Groups, Having, Order, Key, Direction, Nulls, Paging, Limit, Offset, From, Join, JoinedOn, Factor, Call, FactorInBrackets, rule}
-use Rattle.pl_expr_parse.specs.Edges.{edges, firsts, goes_on, rank, empty, behind}
+use Rattle.pl_expr_parse.specs.FirstFollow.{first_follow, firsts, follow_last, rank, empty, behind}
 
 pub all_ranked : (p : Part) → ranked rank (rank p) (rule p) ≡ true
 all_ranked Expression = refl
@@ -68,7 +68,7 @@ all_ranked Factor = refl
 all_ranked Call = refl
 all_ranked FactorInBrackets = refl
 
-pub all_guarded : (p : Part) → (behind p || guarded edges (rule p)) ≡ true
+pub all_guarded : (p : Part) → (behind p || guarded first_follow (rule p)) ≡ true
 all_guarded Expression = refl
 all_guarded Conjunction = refl
 all_guarded Negation = refl
@@ -130,7 +130,7 @@ all_guarded Factor = refl
 all_guarded Call = refl
 all_guarded FactorInBrackets = refl
 
-pub all_begun : (p : Part) → nullable edges (rule p) ≡ empty p
+pub all_begun : (p : Part) → nullable first_follow (rule p) ≡ empty p
 all_begun Expression = refl
 all_begun Conjunction = refl
 all_begun Negation = refl
@@ -192,7 +192,7 @@ all_begun Factor = refl
 all_begun Call = refl
 all_begun FactorInBrackets = refl
 
-pub all_firsts : (p : Part) → included (starts edges (rule p)) (firsts p) ≡ true
+pub all_firsts : (p : Part) → included (starts first_follow (rule p)) (firsts p) ≡ true
 unfolding same_keyword same_sign
 all_firsts Expression = refl
 all_firsts Conjunction = refl
@@ -255,7 +255,7 @@ all_firsts Factor = refl
 all_firsts Call = refl
 all_firsts FactorInBrackets = refl
 
-pub all_stops : (p : Part) → included (stops edges (rule p)) (goes_on p) ≡ true
+pub all_stops : (p : Part) → included (stops first_follow (rule p)) (follow_last p) ≡ true
 unfolding same_keyword same_sign
 all_stops Expression = refl
 all_stops Conjunction = refl
@@ -318,7 +318,7 @@ all_stops Factor = refl
 all_stops Call = refl
 all_stops FactorInBrackets = refl
 
-pub all_fit : (p : Part) → fits edges (rule p) ≡ true
+pub all_fit : (p : Part) → fits first_follow (rule p) ≡ true
 unfolding same_keyword same_sign
 all_fit Expression = refl
 all_fit Conjunction = refl

@@ -5,3 +5,4 @@ pub mod Nots
 pub mod Told
 pub mod Theorem
 pub mod Finished
+pub mod Depths

@@ -1,5 +1,5 @@
 -- One more of the same.
-use Rattle.std.proofs.Common.{◌≡◌, ℕ, zero, suc, ◌+◌, List, [], ◌∷◌, ◌++◌, replicate, refl, ap, ◌∙◌, sym, arith}
+use Rattle.std.proofs.Common.{◌≡◌, ℕ, zero, suc, ◌+◌, List, [], ◌∷◌, ◌++◌, replicate, refl, ap, ◌∙◌, arith}
 
 snoc_same : (n : ℕ) → replicate n (tt {0}) ++ tt ∷ [] ≡ replicate (suc n) (tt {0})
 snoc_same zero = refl

@@ -11,29 +11,29 @@ use Rattle.pl_lex.specs.declared.sign.Sign.{Sign}
 use Rattle.pl_lex.specs.declared.sign.Sign.TheVariants as s
 use Rattle.pl_lex.specs.declared.token.TokenKind.{TokenKind}
 use Rattle.pl_lex.specs.declared.token.TokenKind.TheVariants as kind
-use Rattle.pl_grammar.specs.Marks.{Tokens, sign, name, a_name, carried, marked, same_sign, same_keyword}
-use Rattle.pl_grammar.specs.Parser.{Parser, Outcome, and_then, sees, after, expect, take, begins, joins, sees_two, sees_three}
+use Rattle.pl_grammar.specs.Marks.{Tokens, sign, name, a_name, carried, marked, same_sign, same_keyword, sees, after, begins, sees_two, sees_three}
+use Rattle.pl_grammar.specs.Parser.{Parser, Outcome, and_then, expect, take, joins}
 use Rattle.pl_grammar.specs.Relations.{Rel, behind_mark, before_mark, made, carries}
-use Rattle.pl_grammar.specs.Rule.{Rule, part, inside, one, nothing, maybe, ◌before◌, ◌until◌, ◌then◌, make, check, fork, ◌or◌, ahead, links, link, many, Edges, Spelled, Within, read, read_inside, read_part}
+use Rattle.pl_grammar.specs.Rule.{one, ◌until◌, make, Spelled, Within, read_inside, read_part}
 use Rattle.pl_grammar.specs.Fit.{Told, Ends, Fit}
 use Rattle.pl_grammar.specs.Words.{ARROW, DOT, STAR, FATAL_ERRORS}
 use Rattle.pl_grammar.proofs.Tools.{Gives, same_pair}
 use Rattle.pl_grammar.proofs.Plain.{plain, plain_told, split}
 use Rattle.pl_expr_parse.specs.Grammar.{Part, Expression, Conjunction, Negation, Test, Question, Comparison, Ranged, Range, Members, Concatenation, Sum, Product, Signed, Conversion, Primary, Bracketed, TypeName, Expressions, BracketedList, Named, Suffix, Arguments, ArgumentList, Argument, NamedArgument, Worded, Exists, NullIf, BeforeComma, BeforeClose, Cast, Row, Case, Arms, Whens, Arm, Otherwise, Query, Selected, Items, Item, Label, Alias, Sources, Condition, Groups, Having, Order, Key, Direction, Nulls, Paging, Limit, Offset, From, Join, JoinedOn, Factor, Call, FactorInBrackets, Tree, rule, R, is_named, is_all_of}
-use Rattle.pl_expr_parse.specs.Edges.{edges}
+use Rattle.pl_expr_parse.specs.FirstFollow.{first_follow}
 use Rattle.pl_expr_parse.proofs.Fits.{all_fit, all_guarded, all_begun, all_firsts, all_stops, all_ranked}
 
 -- ---- what an expression is before tokens that pass a test
 
-arrow_next : (d : ℕ) (n : List ℕ) (ts : Tokens) → read_inside rule edges (suc d) Expression (kind.Word n ∷ kind.Sign s.Arrow ∷ ts) ≡ Some (e.Name n, kind.Sign s.Arrow ∷ ts)
+arrow_next : (d : ℕ) (n : List ℕ) (ts : Tokens) → read_inside rule first_follow (suc d) Expression (kind.Word n ∷ kind.Sign s.Arrow ∷ ts) ≡ Some (e.Name n, kind.Sign s.Arrow ∷ ts)
 unfolding read_inside same_keyword same_sign sees after expect take begins joins
 arrow_next d n ts = refl
 
-star_next : (d : ℕ) (n : List ℕ) (ts : Tokens) → ◌≡◌ {A = Outcome (Tree Expression)} (read_inside rule edges (suc d) Expression (kind.Word n ∷ kind.Sign s.Dot ∷ kind.Sign s.Star ∷ ts)) None
+star_next : (d : ℕ) (n : List ℕ) (ts : Tokens) → ◌≡◌ {A = Outcome (Tree Expression)} (read_inside rule first_follow (suc d) Expression (kind.Word n ∷ kind.Sign s.Dot ∷ kind.Sign s.Star ∷ ts)) None
 unfolding read_inside same_keyword same_sign sees after expect take begins joins
 star_next d n ts = refl
 
-star_next_quoted : (d : ℕ) (n : List ℕ) (ts : Tokens) → ◌≡◌ {A = Outcome (Tree Expression)} (read_inside rule edges (suc d) Expression (kind.Quoted n ∷ kind.Sign s.Dot ∷ kind.Sign s.Star ∷ ts)) None
+star_next_quoted : (d : ℕ) (n : List ℕ) (ts : Tokens) → ◌≡◌ {A = Outcome (Tree Expression)} (read_inside rule first_follow (suc d) Expression (kind.Quoted n ∷ kind.Sign s.Dot ∷ kind.Sign s.Star ∷ ts)) None
 unfolding read_inside same_keyword same_sign sees after expect take begins joins
 star_next_quoted d n ts = refl
 
@@ -68,7 +68,7 @@ module _ (S : (p : Part) → Rel (Tree p)) where
   all_of_passes a front rest (made (before_mark t (before_mark u (carries {t = v} e) h) k)) = both_hold (both_hold (name_marked v _ e) h) k
 
 abbrev expression_at : ℕ → Tokens → Outcome (Tree Expression)
-expression_at d ts = read_inside rule edges d Expression ts
+expression_at d ts = read_inside rule first_follow d Expression ts
 
 none_at : (ts : Tokens) → expression_at 0 ts ≡ None
 unfolding read_inside
@@ -122,18 +122,18 @@ all_of_alone d p ts rest x h k = let g : item_of None p ≡ Some (x, rest) = ap 
 
 module _ (h d : ℕ) where
   abbrev Tells : {A : Type 0} → R A → Type 0
-  Tells r = Told edges (Within rule h) (read_inside rule edges d) (read_part rule edges d) r
+  Tells r = Told first_follow (Within rule h) (read_inside rule first_follow d) (read_part rule first_follow d) r
 
   plainly : {A : Type 0} (r : R A) → plain r ≡ true → Tells r
-  plainly r p = plain_told edges (Within rule h) (read_inside rule edges d) (read_part rule edges d) r p
+  plainly r p = plain_told first_follow (Within rule h) (read_inside rule first_follow d) (read_part rule first_follow d) r p
 
   argument_told : Tells (rule Argument)
   argument_told = (tt, tt, named_passes h, named_alone d)
 
   item_told : Tells (rule Item)
-  item_told = (tt, (tt, (tt, tt), all_of_passes (Within rule h), λ ts rest x t k _. all_of_alone d (read_part rule edges d Label) ts rest x t k))
+  item_told = (tt, (tt, (tt, tt), all_of_passes (Within rule h), λ ts rest x t k _. all_of_alone d (read_part rule first_follow d Label) ts rest x t k))
 
-pub all_told : (p : Part) (h d : ℕ) → Told edges (Within rule h) (read_inside rule edges d) (read_part rule edges d) (rule p)
+pub all_told : (p : Part) (h d : ℕ) → Told first_follow (Within rule h) (read_inside rule first_follow d) (read_part rule first_follow d) (rule p)
 all_told Argument h d = argument_told h d
 all_told Item h d = item_told h d
 all_told Expression h d = plainly h d (rule Expression) refl
@@ -195,5 +195,5 @@ all_told Factor h d = plainly h d (rule Factor) refl
 all_told Call h d = plainly h d (rule Call) refl
 all_told FactorInBrackets h d = plainly h d (rule FactorInBrackets) refl
 
-pub fit : (p : Part) → Fit rule edges p
+pub fit : (p : Part) → Fit rule first_follow p
 fit p = record { fits = all_fit p; guarded = all_guarded p; begun = all_begun p; firsts = all_firsts p; stops = all_stops p; ranked = all_ranked p; told = λ h d. all_told p h d }

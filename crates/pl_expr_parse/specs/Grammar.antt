@@ -25,8 +25,7 @@ use Rattle.pl_tree.specs.declared.tree.From.{From as FromTree}
 use Rattle.pl_tree.specs.declared.tree.From.TheVariants as f
 use Rattle.pl_tree.specs.declared.tree.JoinKind.TheVariants as join_is
 use Rattle.pl_tree.specs.declared.tree.Join.{Join as Join_}
-use Rattle.pl_grammar.specs.Marks.{Tokens, Mark, name, a_name, a_number, a_text, a_parameter, a_label}
-use Rattle.pl_grammar.specs.Parser.{sees_two, sees_three}
+use Rattle.pl_grammar.specs.Marks.{Tokens, Mark, name, a_name, a_number, a_text, a_parameter, a_label, a_written_name, a_table_name, a_bare_alias, sees_two, sees_three}
 use Rattle.pl_grammar.specs.Rule.{Rule, part, inside, one, nothing, maybe, ◌before◌, ◌until◌, ◌then◌, make, check, fork, ◌or◌, ahead, links, link, many}
 use Rattle.pl_grammar.specs.Forms.{alone, by, optional, list_of, in_brackets, chain}
 use Rattle.pl_grammar.specs.Words.{ALL, AND, AS, ASC, BETWEEN, BY, CASE, CAST, COALESCE, CROSS, DESC, DISTINCT, ELSE, END, EXISTS, FALSE, FROM, GREATEST, GROUP, HAVING, IN, INNER, IS, JOIN, LEAST, LEFT, LIKE, LIMIT, NOT, NULL, NULLIF, OFFSET, ON, OR, ORDER, ROW, SELECT, THEN, TRUE, WHEN, WHERE, UNKNOWN, OUTER, NULLS, FIRST, LAST, FATAL_ERRORS, OPEN, CLOSE, DOT, TO_TYPE, ARROW, EQUAL, NOT_EQUAL, LESS, GREATER, LESS_OR_EQUAL, GREATER_OR_EQUAL, COMMA, PLUS, MINUS, STAR, SLASH, PERCENT, BARS}
@@ -172,6 +171,10 @@ is_all_of = sees_three name DOT STAR
 
 -- ---- the grammar
 
+-- what may stand behind the condition of a query
+abbrev pub ending : R (List Expr × (Option Expr × (List Key_ × (Option Expr × Option Expr))))
+ending = part Groups then part Having then part Order then part Paging
+
 abbrev pub rule : (p : Part) → R (Tree p)
 -- ---- the levels, from the loosest to the tightest
 -- 12 and 11: OR, AND
@@ -216,7 +219,8 @@ rule Primary =
     or fork OPEN (part Bracketed) (part Worded)
 -- query) or e)
 rule Bracketed = (make e.Subquery (inside Query) or inside Expression) until CLOSE
-rule TypeName = make type_of (one a_name)
+-- as it is written in quotes or without
+rule TypeName = make (λ p. type_of p.0 p.1) (one a_written_name)
 -- e {, e}, and the same in brackets
 rule Expressions = list_of (inside Expression)
 rule BracketedList = in_brackets (part Expressions)
@@ -259,7 +263,7 @@ rule Otherwise = optional ELSE (inside Expression)
 -- ---- queries
 rule Query =
     make (λ p. query_of p.0.0 p.0.1 p.1.0 p.1.1.0 p.1.1.1.0 p.1.1.1.1.0 p.1.1.1.1.1.0 p.1.1.1.1.1.1.0 p.1.1.1.1.1.1.1)
-    (SELECT before part Selected then part Sources then part Condition then part Groups then part Having then part Order then part Paging)
+    (SELECT before part Selected then part Sources then part Condition then ending)
 -- [DISTINCT | ALL] item {, item}
 rule Selected = fork DISTINCT (make (λ xs. (true, xs)) (part Items)) (make (λ p. (false, p.1)) (maybe ALL then part Items))
 rule Items = list_of (part Item)
@@ -268,9 +272,9 @@ rule Item =
     fork STAR (nothing i.All)
     (ahead is_all_of [] (make i.AllOf (one a_name until DOT until STAR)) (make (λ p. i.Value p.0 p.1) (inside Expression then part Label)))
 -- [AS label | name]: behind AS a label may be a reserved word
-rule Label = fork AS (make Some (one a_label)) (make Some (one a_name) or nothing None)
+rule Label = fork AS (make Some (one a_label)) (make Some (one a_bare_alias) or nothing None)
 -- [[AS] name]
-rule Alias = fork AS (make Some (one a_name)) (make Some (one a_name) or nothing None)
+rule Alias = fork AS (make Some (one a_name)) (make Some (one a_bare_alias) or nothing None)
 -- [FROM from {, from}]
 rule Sources = fork FROM (list_of (part From)) (nothing [])
 -- [WHERE e]
@@ -304,7 +308,7 @@ rule Join =
 -- JOIN factor ON e
 rule JoinedOn = JOIN before part Factor then ON before inside Expression
 rule Factor =
-    check (λ p. source_of p.0 p.1.0 p.1.1) (one a_name then part Call then part Alias)
+    check (λ p. source_of p.0 p.1.0 p.1.1) (one a_table_name then part Call then part Alias)
     or OPEN before part FactorInBrackets
 -- [(arguments)]
 rule Call = optional OPEN (part Arguments)

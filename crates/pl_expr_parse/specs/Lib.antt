@@ -1,6 +1,6 @@
 pub mod Trees
 pub mod Grammar
-pub mod Edges
+pub mod FirstFollow
 pub mod Nests
 pub mod Spells
 pub mod Finished

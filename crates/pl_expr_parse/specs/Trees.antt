@@ -6,9 +6,7 @@ use Rattle.pl_base.specs.declared.types.Ty.{Ty}
 use Rattle.pl_base.specs.declared.types.Ty.TheVariants as t
 use Rattle.pl_tree.specs.declared.tree.Sign.{Sign}
 use Rattle.pl_tree.specs.declared.tree.Sign.TheVariants as sg
-use Rattle.pl_tree.specs.declared.tree.Literal.{Literal}
 use Rattle.pl_tree.specs.declared.tree.Literal.TheVariants as l
-use Rattle.pl_tree.specs.declared.tree.Pick.{Pick}
 use Rattle.pl_tree.specs.declared.tree.Expr.{Expr}
 use Rattle.pl_tree.specs.declared.tree.Expr.TheVariants as e
 use Rattle.pl_tree.specs.declared.tree.Argument.{Argument}
@@ -18,7 +16,6 @@ use Rattle.pl_tree.specs.declared.tree.Factor.{Factor, roll-Factor}
 use Rattle.pl_tree.specs.declared.tree.Term.{Term, roll-Term}
 use Rattle.pl_tree.specs.declared.tree.Query.{Query, roll-Query}
 use Rattle.pl_tree.specs.declared.tree.Item.{Item}
-use Rattle.pl_tree.specs.declared.tree.Item.TheVariants as i
 use Rattle.pl_tree.specs.declared.tree.Nulls.{Nulls}
 use Rattle.pl_tree.specs.declared.tree.Key.{Key, roll-Key}
 use Rattle.pl_tree.specs.declared.tree.From.{From}
@@ -39,16 +36,24 @@ abbrev pub one_of : List (List ℕ) → List ℕ → Bool
 one_of [] name = false
 one_of (n ∷ ns) name = same_text name n || one_of ns name
 
--- any other name is that of a row type
-abbrev pub type_of : List ℕ → Ty
-type_of name =
-    if one_of (codes "integer" ∷ codes "int" ∷ codes "int4" ∷ []) name then t.Int else (
-    if one_of (codes "bigint" ∷ codes "int8" ∷ []) name then t.Big else (
+-- the server's own names of types. Any other is that of a row type.
+abbrev pub catalogued : List ℕ → Ty
+catalogued name =
+    if same_text name (codes "int4") then t.Int else (
+    if same_text name (codes "int8") then t.Big else (
     if same_text name (codes "text") then t.Text else (
-    if one_of (codes "boolean" ∷ codes "bool" ∷ []) name then t.Bool else (
+    if same_text name (codes "bool") then t.Bool else (
     if same_text name (codes "record") then t.Rec else (
     if same_text name (codes "void") then t.Void else (
     if same_text name (codes "trigger") then t.Trigger else t.Row name))))))
+
+-- SQL has words for some types, which are no names of types in quotes
+abbrev pub type_of : Bool → List ℕ → Ty
+type_of true name = catalogued name
+type_of false name =
+    if one_of (codes "integer" ∷ codes "int" ∷ []) name then t.Int else (
+    if same_text name (codes "bigint") then t.Big else (
+    if same_text name (codes "boolean") then t.Bool else catalogued name))
 
 -- ---- a chain with one part is the part
 

@@ -1,55 +1,55 @@
 //! The parser of one depth.
 
-ghost use Rattle.std.specs.Prelude.{[], ◌∷◌, ◌≡◌, length, IfOk};
-ghost use Rattle.pl_grammar.specs.Parser.{Reads, links_from, many_from};
-ghost use Rattle.pl_grammar.specs.Forms.{alone, by, list_of};
-ghost use Rattle.pl_grammar.specs.Words as w;
+ghost use Rattle.pl_grammar.specs.Parser.{Reads};
 ghost use Rattle.pl_expr_parse.specs.Grammar as spec;
-ghost use Rattle.pl_expr_parse.specs.Trees as tree;
-ghost use Rattle.pl_expr_parse.specs.Edges.{reads, reads_part, reads_inside, firsts};
+ghost use Rattle.pl_expr_parse.specs.FirstFollow.{reads_inside};
 ghost use Rattle.pl_expr_parse.specs.Nests.{Nests};
 
+use crate::parts::{Inside, Kind};
 use pl_grammar::{Fail, Tokens};
 use pl_tree::{Expr, From, Query};
 use std::alloc::Global;
 
-/// The parser of one depth. What stands inside is read by its three functions.
+/// The parser of one depth. What stands inside is read by its function.
 #[derive(Clone, Copy)]
-pub struct Grammar<F, G, H> {
+pub struct Grammar<F> {
     pub alloc: Global,
     /// How many parts may still stand inside one another.
     pub depth: usize,
-    pub expression: F,
-    pub query: G,
-    pub source: H,
+    pub inside: F,
 }
 
-impl<
-    F: Fn(Global, &mut Tokens<'_>, usize) -> Result<Expr, Fail>,
-    G: Fn(Global, &mut Tokens<'_>, usize) -> Result<Query, Fail>,
-    H: Fn(Global, &mut Tokens<'_>, usize) -> Result<From, Fail>,
-> Grammar<F, G, H> {
+impl<F: Fn(Global, &mut Tokens<'_>, usize, Kind) -> Result<Inside, Fail>> Grammar<F> {
     // An expression in brackets or behind a word.
     pub(crate) fn inner(&self, tokens: &mut Tokens<'_>) -> Result<Expr, Fail>
-        requires { Nests self.now.depth (F.pre self.now.expression) (F.post self.now.expression) (G.pre self.now.query) (G.post self.now.query) (H.pre self.now.source) (H.post self.now.source) }
+        requires { Nests self.now.depth (F.pre self.now.inside) (F.post self.now.inside) }
         ensures { Reads (reads_inside self.now.depth spec.Expression tokens.old) result tokens.new }
     {
-        (self.expression)(self.alloc, tokens, self.depth)
+        match (self.inside)(self.alloc, tokens, self.depth, Kind::Expression)? {
+            Inside::Expression(expression) => Ok(expression),
+            Inside::Query(_) | Inside::Source(_) => unreachable!(),
+        }
     }
 
     // A query in brackets.
     pub(crate) fn inner_query(&self, tokens: &mut Tokens<'_>) -> Result<Query, Fail>
-        requires { Nests self.now.depth (F.pre self.now.expression) (F.post self.now.expression) (G.pre self.now.query) (G.post self.now.query) (H.pre self.now.source) (H.post self.now.source) }
+        requires { Nests self.now.depth (F.pre self.now.inside) (F.post self.now.inside) }
         ensures { Reads (reads_inside self.now.depth spec.Query tokens.old) result tokens.new }
     {
-        (self.query)(self.alloc, tokens, self.depth)
+        match (self.inside)(self.alloc, tokens, self.depth, Kind::Query)? {
+            Inside::Query(query) => Ok(query),
+            Inside::Expression(_) | Inside::Source(_) => unreachable!(),
+        }
     }
 
     // What FROM has in brackets.
     pub(crate) fn inner_source(&self, tokens: &mut Tokens<'_>) -> Result<From, Fail>
-        requires { Nests self.now.depth (F.pre self.now.expression) (F.post self.now.expression) (G.pre self.now.query) (G.post self.now.query) (H.pre self.now.source) (H.post self.now.source) }
+        requires { Nests self.now.depth (F.pre self.now.inside) (F.post self.now.inside) }
         ensures { Reads (reads_inside self.now.depth spec.From tokens.old) result tokens.new }
     {
-        (self.source)(self.alloc, tokens, self.depth)
+        match (self.inside)(self.alloc, tokens, self.depth, Kind::Source)? {
+            Inside::Source(source) => Ok(source),
+            Inside::Expression(_) | Inside::Query(_) => unreachable!(),
+        }
     }
 }

@@ -1,25 +1,25 @@
 //! Operators and prefixes.
 
-ghost use Rattle.std.specs.Prelude.{[], ◌∷◌, ◌≡◌, length, replicate, Some};
+ghost use Rattle.std.specs.Prelude.{[], ◌≡◌, length, replicate, Some};
 ghost use Rattle.pl_grammar.specs.Parser.{Reads, pure, joins, links_from};
 ghost use Rattle.pl_grammar.specs.Forms.{alone, by};
 ghost use Rattle.pl_grammar.specs.Words as w;
 ghost use Rattle.pl_expr_parse.specs.Grammar as spec;
 
 use pl_base::{Arithmetic, Comparison, List};
-use pl_grammar::{Fail, Tokens};
-use pl_lex::{Keyword, Sign as Mark};
-use pl_tree::Sign;
+use pl_grammar::{Fail, Mark, Tokens};
+use pl_lex::{Keyword, Sign};
+use pl_tree::Sign as Prefix;
 use std::alloc::Global;
 
 #[tactic(auto, using(pl_grammar::proofs::Turns::joins_here, pl_grammar::proofs::Turns::joins_past, pl_grammar::proofs::Turns::joins_none))]
 pub(crate) fn term_at(tokens: &Tokens<'_>) -> Option<Arithmetic>
     ensures { result ≡ joins spec.terms tokens.now }
 {
-    if tokens.sees_sign(Mark::Plus) {
+    if tokens.sees(Mark::Sign(Sign::Plus)) {
         return Some(Arithmetic::Add);
     }
-    if tokens.sees_sign(Mark::Minus) {
+    if tokens.sees(Mark::Sign(Sign::Minus)) {
         return Some(Arithmetic::Subtract);
     }
     None
@@ -29,13 +29,13 @@ pub(crate) fn term_at(tokens: &Tokens<'_>) -> Option<Arithmetic>
 pub(crate) fn factor_at(tokens: &Tokens<'_>) -> Option<Arithmetic>
     ensures { result ≡ joins spec.factors tokens.now }
 {
-    if tokens.sees_sign(Mark::Star) {
+    if tokens.sees(Mark::Sign(Sign::Star)) {
         return Some(Arithmetic::Multiply);
     }
-    if tokens.sees_sign(Mark::Slash) {
+    if tokens.sees(Mark::Sign(Sign::Slash)) {
         return Some(Arithmetic::Divide);
     }
-    if tokens.sees_sign(Mark::Percent) {
+    if tokens.sees(Mark::Sign(Sign::Percent)) {
         return Some(Arithmetic::Remainder);
     }
     None
@@ -45,42 +45,42 @@ pub(crate) fn factor_at(tokens: &Tokens<'_>) -> Option<Arithmetic>
 pub(crate) fn comparison_at(tokens: &Tokens<'_>) -> Option<Comparison>
     ensures { result ≡ joins spec.comparisons tokens.now }
 {
-    if tokens.sees_sign(Mark::Equal) {
+    if tokens.sees(Mark::Sign(Sign::Equal)) {
         return Some(Comparison::Equal);
     }
-    if tokens.sees_sign(Mark::NotEqual) {
+    if tokens.sees(Mark::Sign(Sign::NotEqual)) {
         return Some(Comparison::NotEqual);
     }
-    if tokens.sees_sign(Mark::Less) {
+    if tokens.sees(Mark::Sign(Sign::Less)) {
         return Some(Comparison::Less);
     }
-    if tokens.sees_sign(Mark::Greater) {
+    if tokens.sees(Mark::Sign(Sign::Greater)) {
         return Some(Comparison::Greater);
     }
-    if tokens.sees_sign(Mark::LessOrEqual) {
+    if tokens.sees(Mark::Sign(Sign::LessOrEqual)) {
         return Some(Comparison::LessOrEqual);
     }
-    if tokens.sees_sign(Mark::GreaterOrEqual) {
+    if tokens.sees(Mark::Sign(Sign::GreaterOrEqual)) {
         return Some(Comparison::GreaterOrEqual);
     }
     None
 }
 
 #[tactic(auto, using(pl_grammar::proofs::Turns::joins_here, pl_grammar::proofs::Turns::joins_past, pl_grammar::proofs::Turns::joins_none))]
-fn sign_at(tokens: &Tokens<'_>) -> Option<Sign>
+fn sign_at(tokens: &Tokens<'_>) -> Option<Prefix>
     ensures { result ≡ joins spec.signs tokens.now }
 {
-    if tokens.sees_sign(Mark::Plus) {
-        return Some(Sign::Plus);
+    if tokens.sees(Mark::Sign(Sign::Plus)) {
+        return Some(Prefix::Plus);
     }
-    if tokens.sees_sign(Mark::Minus) {
-        return Some(Sign::Minus);
+    if tokens.sees(Mark::Sign(Sign::Minus)) {
+        return Some(Prefix::Minus);
     }
     None
 }
 
 // {+ | -}
-pub(crate) fn signs(alloc: Global, tokens: &mut Tokens<'_>) -> Result<List<Sign>, Fail>
+pub(crate) fn signs(alloc: Global, tokens: &mut Tokens<'_>) -> Result<List<Prefix>, Fail>
     ensures { Reads (links_from spec.signs (pure (tt {0})) (λ s _. s) (length tokens.old) [] tokens.old) result tokens.new }
 {
     let mut found = List::new(alloc);
@@ -101,7 +101,7 @@ pub(crate) fn nots(tokens: &mut Tokens<'_>) -> usize
 {
     let left = tokens.left();
     for turn in 0..left {
-        if !tokens.eat(Keyword::Not) {
+        if !tokens.eat(Mark::Keyword(Keyword::Not)) {
             return turn;
         }
     }
@@ -112,12 +112,12 @@ pub(crate) fn nots(tokens: &mut Tokens<'_>) -> usize
 pub(crate) fn is_named(tokens: &Tokens<'_>) -> bool
     ensures { result ≡ spec.is_named tokens.now }
 {
-    tokens.sees_word_before("fatal_errors", Mark::Arrow)
+    tokens.sees_two(Mark::Word("fatal_errors"), Mark::Sign(Sign::Arrow))
 }
 
 // Whether all columns of a name are asked for here.
 pub(crate) fn is_all_of(tokens: &Tokens<'_>) -> bool
     ensures { result ≡ spec.is_all_of tokens.now }
 {
-    tokens.sees_name_before(Mark::Dot, Mark::Star)
+    tokens.sees_three(Mark::Name, Mark::Sign(Sign::Dot), Mark::Sign(Sign::Star))
 }

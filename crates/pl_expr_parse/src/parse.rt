@@ -1,105 +1,60 @@
 //! Whole lists of tokens.
 
-ghost use Rattle.std.specs.Prelude.{◌≡◌, IfOk, IsErrOf};
+ghost use Rattle.std.specs.Prelude.{◌≡◌, IfOk};
 ghost use Rattle.pl_grammar.specs.Marks.{kinds};
-ghost use Rattle.pl_grammar.specs.Parser.{Reads};
-ghost use Rattle.pl_expr_parse.specs.Grammar as spec;
-ghost use Rattle.pl_expr_parse.specs.Edges.{reads_inside};
-ghost use Rattle.pl_expr_parse.specs.Spells.{Spells, SpellsQuery};
 ghost use Rattle.pl_grammar.specs.Parse.{Answers};
+ghost use Rattle.pl_grammar.specs.Parser.{Reads, ReadsAll};
+ghost use Rattle.pl_expr_parse.specs.Grammar as spec;
+ghost use Rattle.pl_expr_parse.specs.Finished.{reads_front};
+ghost use Rattle.pl_expr_parse.specs.Nests.{reads_kind};
+ghost use Rattle.pl_expr_parse.specs.Spells.{Spells, SpellsQuery};
 
 use crate::grammar::Grammar;
-use pl_grammar::{Fail, ParseFail, Tokens, deep};
+use crate::parts::{Inside, Kind};
+use crate::readers::{read_expression, read_query};
+use pl_grammar::{Fail, ParseFail, Tokens, deep, whole};
 use pl_lex::Token;
-use pl_tree::{Expr, From, Query};
+use pl_tree::{Expr, Query};
 use std::alloc::Global;
 
-/// An expression in which parts stand inside one another no deeper than `depth`.
+/// What stands inside, in which parts stand inside one another no deeper than `depth`.
 #[cycle(nest)]
-pub(crate) fn expression(alloc: Global, tokens: &mut Tokens<'_>, depth: usize) -> Result<Expr, Fail>
-    ensures { Reads (reads_inside depth spec.Expression tokens.old) result tokens.new }
+#[tactic(auto, using(crate::proofs::Depths::kind_zero, crate::proofs::Depths::expression_reads, crate::proofs::Depths::query_reads, crate::proofs::Depths::source_reads))]
+pub(crate) fn inside(
+    alloc: Global,
+    tokens: &mut Tokens<'_>,
+    depth: usize,
+    kind: Kind,
+) -> Result<Inside, Fail>
+    ensures { Reads (reads_kind depth kind tokens.old) result tokens.new }
 {
     if depth == 0 {
         return Err(Fail::Syntax);
     }
-    Grammar {
+    let grammar = Grammar {
         alloc,
         depth: depth - 1,
-        expression,
-        query,
-        source,
+        inside,
+    };
+    match kind {
+        Kind::Expression => Ok(Inside::Expression(grammar.disjunction(tokens)?)),
+        Kind::Query => Ok(Inside::Query(grammar.query(tokens)?)),
+        Kind::Source => Ok(Inside::Source(grammar.source(tokens)?)),
     }
-    .disjunction(tokens)
-}
-
-/// A query, likewise.
-#[cycle(nest)]
-pub(crate) fn query(alloc: Global, tokens: &mut Tokens<'_>, depth: usize) -> Result<Query, Fail>
-    ensures { Reads (reads_inside depth spec.Query tokens.old) result tokens.new }
-{
-    if depth == 0 {
-        return Err(Fail::Syntax);
-    }
-    Grammar {
-        alloc,
-        depth: depth - 1,
-        expression,
-        query,
-        source,
-    }
-    .query(tokens)
-}
-
-/// What FROM has in brackets, likewise.
-#[cycle(nest)]
-pub(crate) fn source(alloc: Global, tokens: &mut Tokens<'_>, depth: usize) -> Result<From, Fail>
-    ensures { Reads (reads_inside depth spec.From tokens.old) result tokens.new }
-{
-    if depth == 0 {
-        return Err(Fail::Syntax);
-    }
-    Grammar {
-        alloc,
-        depth: depth - 1,
-        expression,
-        query,
-        source,
-    }
-    .source(tokens)
 }
 
 /// The whole list as one expression.
 fn whole_expression(alloc: Global, tokens: &[Token]) -> Result<Expr, Fail>
-    ensures found { IfOk result (λ x. Spells x (kinds tokens.now)) }
-    ensures only { IfOk result (λ x. (other : spec.Tree spec.Expression) → Spells other (kinds tokens.now) → other ≡ x) }
-    ensures syntax { IsErrOf result Fail.Syntax → (x : spec.Tree spec.Expression) → Spells x (kinds tokens.now) → ⊥ }
+    ensures { ReadsAll (reads_front spec.Expression (kinds tokens.now)) result }
 {
-    let mut rest = Tokens::new(tokens);
-    let x = match expression(alloc, &mut rest, tokens.len() + 1) {
-        Ok(x) => x,
-        Err(fail) => return Err(fail),
-    };
-    if rest.left() != 0 {
-        return Err(Fail::Syntax);
-    }
-    Ok(x)
+    whole(tokens, |rest| read_expression(alloc, rest))
 }
 
 /// The whole list as one query.
 fn whole_query(alloc: Global, tokens: &[Token]) -> Result<Query, Fail>
-    ensures found { IfOk result (λ x. SpellsQuery x (kinds tokens.now)) }
-    ensures only { IfOk result (λ x. (other : spec.Tree spec.Query) → SpellsQuery other (kinds tokens.now) → other ≡ x) }
-    ensures syntax { IsErrOf result Fail.Syntax → (x : spec.Tree spec.Query) → SpellsQuery x (kinds tokens.now) → ⊥ }
+    ensures { ReadsAll (reads_front spec.Query (kinds tokens.now)) result }
 {
-    let mut rest = Tokens::new(tokens);
-    let x = match query(alloc, &mut rest, tokens.len() + 1) {
-        Ok(x) => x,
-        Err(fail) => return Err(fail),
-    };
-    if rest.left() != 0 {
-        return Err(Fail::Syntax);
-    }
-    Ok(x)
+    whole(tokens, |rest| read_query(alloc, rest))
 }
 
 /// The expression that the tokens spell.

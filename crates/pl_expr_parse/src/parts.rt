@@ -1,7 +1,24 @@
 //! What is read before the tree that it becomes a part of is known.
 
 use pl_base::{List, Name, Test};
-use pl_tree::{Argument, Expr, Query};
+use pl_tree::{Argument, Expr, From, Query};
+
+/// What may stand inside: in brackets or behind a word.
+#[derive(Clone, Copy)]
+pub enum Kind {
+    Expression,
+    Query,
+    /// What FROM has.
+    Source,
+}
+
+/// What stands inside, of each kind.
+#[derive(Drop)]
+pub enum Inside {
+    Expression(Expr),
+    Query(Query),
+    Source(From),
+}
 
 /// What stands behind an operand of level 7.
 #[derive(Drop)]

@@ -1,39 +1,51 @@
 //! Queries.
 
-ghost use Rattle.std.specs.Prelude.{[], ◌∷◌, ◌≡◌, length, IfOk};
-ghost use Rattle.pl_grammar.specs.Parser.{Reads, begins, links_from, many_from};
-ghost use Rattle.pl_grammar.specs.Forms.{alone, by, list_of};
-ghost use Rattle.pl_grammar.specs.Words as w;
+ghost use Rattle.pl_grammar.specs.Forms.{list_of};
+ghost use Rattle.pl_grammar.specs.Parser.{Reads};
+ghost use Rattle.pl_grammar.specs.Rule.{part};
 ghost use Rattle.pl_expr_parse.specs.Grammar as spec;
-ghost use Rattle.pl_expr_parse.specs.Trees as tree;
-ghost use Rattle.pl_expr_parse.specs.Edges.{reads, reads_part, reads_inside, firsts};
+ghost use Rattle.pl_expr_parse.specs.FirstFollow.{reads, reads_part};
 ghost use Rattle.pl_expr_parse.specs.Nests.{Nests};
 
 use crate::grammar::Grammar;
 use crate::operators::is_all_of;
+use crate::parts::{Inside, Kind};
 use crate::trees::{joined_of, source_of};
-use pl_base::{Boxed, List, Name};
-use pl_grammar::{Fail, Tokens, joined};
-use pl_lex::{Keyword, Sign as Mark};
+use pl_base::{Boxed, Held, List, Name};
+use pl_grammar::{Fail, Mark, Tokens, list, many};
+use pl_lex::{Keyword, Sign};
 use pl_tree::{Argument, Expr, From, Item, Join, JoinKind, Key, Nulls, Query};
 use std::alloc::Global;
 
-impl<
-    F: Fn(Global, &mut Tokens<'_>, usize) -> Result<Expr, Fail>,
-    G: Fn(Global, &mut Tokens<'_>, usize) -> Result<Query, Fail>,
-    H: Fn(Global, &mut Tokens<'_>, usize) -> Result<From, Fail>,
-> Grammar<F, G, H> {
+// What may stand behind the condition of a query.
+type Ending = (
+    List<Expr>,
+    (
+        Option<Boxed<Expr>>,
+        (List<Key>, (Option<Boxed<Expr>>, Option<Boxed<Expr>>)),
+    ),
+);
+
+// What a join begins with.
+const JOINS: [Mark; 4] = [
+    Mark::Keyword(Keyword::Cross),
+    Mark::Keyword(Keyword::Left),
+    Mark::Keyword(Keyword::Inner),
+    Mark::Keyword(Keyword::Join),
+];
+
+impl<F: Fn(Global, &mut Tokens<'_>, usize, Kind) -> Result<Inside, Fail>> Grammar<F> {
     // [AS label | name]
     #[tactic(auto, using(crate::proofs::Step::gives))]
     pub(crate) fn label(&self, tokens: &mut Tokens<'_>) -> Result<Option<Name>, Fail>
-        requires { Nests self.now.depth (F.pre self.now.expression) (F.post self.now.expression) (G.pre self.now.query) (G.post self.now.query) (H.pre self.now.source) (H.post self.now.source) }
+        requires { Nests self.now.depth (F.pre self.now.inside) (F.post self.now.inside) }
         ensures { Reads (reads_part self.now.depth spec.Label tokens.old) result tokens.new }
     {
-        if tokens.eat(Keyword::As) {
+        if tokens.eat(Mark::Keyword(Keyword::As)) {
             return Ok(Some(tokens.label()?));
         }
-        if tokens.sees_name() {
-            return Ok(Some(tokens.name()?));
+        if tokens.sees(Mark::Name) {
+            return Ok(Some(tokens.bare_alias()?));
         }
         Ok(None)
     }
@@ -41,112 +53,99 @@ impl<
     // [[AS] name]
     #[tactic(auto, using(crate::proofs::Step::gives))]
     pub(crate) fn alias(&self, tokens: &mut Tokens<'_>) -> Result<Option<Name>, Fail>
-        requires { Nests self.now.depth (F.pre self.now.expression) (F.post self.now.expression) (G.pre self.now.query) (G.post self.now.query) (H.pre self.now.source) (H.post self.now.source) }
+        requires { Nests self.now.depth (F.pre self.now.inside) (F.post self.now.inside) }
         ensures { Reads (reads_part self.now.depth spec.Alias tokens.old) result tokens.new }
     {
-        if tokens.eat(Keyword::As) {
+        if tokens.eat(Mark::Keyword(Keyword::As)) {
             return Ok(Some(tokens.name()?));
         }
-        if tokens.sees_name() {
-            return Ok(Some(tokens.name()?));
+        if tokens.sees(Mark::Name) {
+            return Ok(Some(tokens.bare_alias()?));
         }
         Ok(None)
     }
 
     #[tactic(auto, using(crate::proofs::Step::gives, crate::proofs::Step::then_reads, crate::proofs::Step::else_reads))]
     pub(crate) fn item(&self, tokens: &mut Tokens<'_>) -> Result<Item, Fail>
-        requires { Nests self.now.depth (F.pre self.now.expression) (F.post self.now.expression) (G.pre self.now.query) (G.post self.now.query) (H.pre self.now.source) (H.post self.now.source) }
+        requires { Nests self.now.depth (F.pre self.now.inside) (F.post self.now.inside) }
         ensures { Reads (reads_part self.now.depth spec.Item tokens.old) result tokens.new }
     {
-        if tokens.eat_sign(Mark::Star) {
+        if tokens.eat(Mark::Sign(Sign::Star)) {
             return Ok(Item::All);
         }
         if is_all_of(tokens) {
             let name = tokens.name()?;
-            tokens.expect_sign(Mark::Dot)?;
-            tokens.expect_sign(Mark::Star)?;
+            tokens.expect(Mark::Sign(Sign::Dot))?;
+            tokens.expect(Mark::Sign(Sign::Star))?;
             return Ok(Item::AllOf(name));
         }
-        let value = self.inner(tokens)?;
+        let value = Held::new(self.inner(tokens)?);
         let label = self.label(tokens)?;
-        Ok(Item::Value { value, label })
-    }
-
-    // {, item}
-    pub(crate) fn more_items(&self, tokens: &mut Tokens<'_>) -> Result<List<Item>, Fail>
-        requires { Nests self.now.depth (F.pre self.now.expression) (F.post self.now.expression) (G.pre self.now.query) (G.post self.now.query) (H.pre self.now.source) (H.post self.now.source) }
-        ensures { Reads (links_from (by w.COMMA) (reads_part self.now.depth spec.Item) alone (length tokens.old) [] tokens.old) result tokens.new }
-    {
-        let mut found = List::new(self.alloc);
-        for _turn in 0..tokens.left() {
-            if !tokens.eat_sign(Mark::Comma) {
-                return Ok(found);
-            }
-            found.push(self.item(tokens)?)?;
-        }
-        Ok(found)
+        Ok(Item::Value {
+            value: value.into_inner(),
+            label,
+        })
     }
 
     // item {, item}
     #[tactic(auto, using(crate::proofs::Step::gives))]
     pub(crate) fn items(&self, tokens: &mut Tokens<'_>) -> Result<List<Item>, Fail>
-        requires { Nests self.now.depth (F.pre self.now.expression) (F.post self.now.expression) (G.pre self.now.query) (G.post self.now.query) (H.pre self.now.source) (H.post self.now.source) }
+        requires { Nests self.now.depth (F.pre self.now.inside) (F.post self.now.inside) }
         ensures { Reads (reads_part self.now.depth spec.Items tokens.old) result tokens.new }
     {
-        let first = self.item(tokens)?;
-        let more = self.more_items(tokens)?;
-        Ok(joined(self.alloc, first, more)?)
+        list(
+            self.alloc,
+            tokens,
+            Mark::Sign(Sign::Comma),
+            |tokens| self.item(tokens),
+        )
     }
 
     // [DISTINCT | ALL] item {, item}
     #[tactic(auto, using(crate::proofs::Step::gives))]
     pub(crate) fn selected(&self, tokens: &mut Tokens<'_>) -> Result<(bool, List<Item>), Fail>
-        requires { Nests self.now.depth (F.pre self.now.expression) (F.post self.now.expression) (G.pre self.now.query) (G.post self.now.query) (H.pre self.now.source) (H.post self.now.source) }
+        requires { Nests self.now.depth (F.pre self.now.inside) (F.post self.now.inside) }
         ensures { Reads (reads_part self.now.depth spec.Selected tokens.old) result tokens.new }
     {
-        if tokens.eat(Keyword::Distinct) {
+        if tokens.eat(Mark::Keyword(Keyword::Distinct)) {
             return Ok((true, self.items(tokens)?));
         }
-        tokens.eat(Keyword::All);
+        tokens.eat(Mark::Keyword(Keyword::All));
         Ok((false, self.items(tokens)?))
     }
 
-    // {, from}
-    pub(crate) fn more_sources(&self, tokens: &mut Tokens<'_>) -> Result<List<From>, Fail>
-        requires { Nests self.now.depth (F.pre self.now.expression) (F.post self.now.expression) (G.pre self.now.query) (G.post self.now.query) (H.pre self.now.source) (H.post self.now.source) }
-        ensures { Reads (links_from (by w.COMMA) (reads_part self.now.depth spec.From) alone (length tokens.old) [] tokens.old) result tokens.new }
+    // from {, from}
+    fn tables(&self, tokens: &mut Tokens<'_>) -> Result<List<From>, Fail>
+        requires { Nests self.now.depth (F.pre self.now.inside) (F.post self.now.inside) }
+        ensures { Reads (reads self.now.depth (list_of (part spec.From)) tokens.old) result tokens.new }
     {
-        let mut found = List::new(self.alloc);
-        for _turn in 0..tokens.left() {
-            if !tokens.eat_sign(Mark::Comma) {
-                return Ok(found);
-            }
-            found.push(self.source(tokens)?)?;
-        }
-        Ok(found)
+        list(
+            self.alloc,
+            tokens,
+            Mark::Sign(Sign::Comma),
+            |tokens| self.source(tokens),
+        )
     }
 
     // [FROM from {, from}]
     #[tactic(auto, using(crate::proofs::Step::gives))]
     pub(crate) fn sources(&self, tokens: &mut Tokens<'_>) -> Result<List<From>, Fail>
-        requires { Nests self.now.depth (F.pre self.now.expression) (F.post self.now.expression) (G.pre self.now.query) (G.post self.now.query) (H.pre self.now.source) (H.post self.now.source) }
+        requires { Nests self.now.depth (F.pre self.now.inside) (F.post self.now.inside) }
         ensures { Reads (reads_part self.now.depth spec.Sources tokens.old) result tokens.new }
     {
-        if !tokens.eat(Keyword::From) {
+        if !tokens.eat(Mark::Keyword(Keyword::From)) {
             return Ok(List::new(self.alloc));
         }
-        let first = self.source(tokens)?;
-        let more = self.more_sources(tokens)?;
-        Ok(joined(self.alloc, first, more)?)
+        self.tables(tokens)
     }
 
     // [WHERE e]
     #[tactic(auto, using(crate::proofs::Step::gives))]
     pub(crate) fn condition(&self, tokens: &mut Tokens<'_>) -> Result<Option<Boxed<Expr>>, Fail>
-        requires { Nests self.now.depth (F.pre self.now.expression) (F.post self.now.expression) (G.pre self.now.query) (G.post self.now.query) (H.pre self.now.source) (H.post self.now.source) }
+        requires { Nests self.now.depth (F.pre self.now.inside) (F.post self.now.inside) }
         ensures { Reads (reads_part self.now.depth spec.Condition tokens.old) result tokens.new }
     {
-        if !tokens.eat(Keyword::Where) {
+        if !tokens.eat(Mark::Keyword(Keyword::Where)) {
             return Ok(None);
         }
         let condition = self.inner(tokens)?;
@@ -156,23 +155,23 @@ impl<
     // [GROUP BY e {, e}]
     #[tactic(auto, using(crate::proofs::Step::gives))]
     pub(crate) fn groups(&self, tokens: &mut Tokens<'_>) -> Result<List<Expr>, Fail>
-        requires { Nests self.now.depth (F.pre self.now.expression) (F.post self.now.expression) (G.pre self.now.query) (G.post self.now.query) (H.pre self.now.source) (H.post self.now.source) }
+        requires { Nests self.now.depth (F.pre self.now.inside) (F.post self.now.inside) }
         ensures { Reads (reads_part self.now.depth spec.Groups tokens.old) result tokens.new }
     {
-        if !tokens.eat(Keyword::Group) {
+        if !tokens.eat(Mark::Keyword(Keyword::Group)) {
             return Ok(List::new(self.alloc));
         }
-        tokens.expect(Keyword::By)?;
+        tokens.expect(Mark::Keyword(Keyword::By))?;
         self.expressions(tokens)
     }
 
     // [HAVING e]
     #[tactic(auto, using(crate::proofs::Step::gives))]
     pub(crate) fn having(&self, tokens: &mut Tokens<'_>) -> Result<Option<Boxed<Expr>>, Fail>
-        requires { Nests self.now.depth (F.pre self.now.expression) (F.post self.now.expression) (G.pre self.now.query) (G.post self.now.query) (H.pre self.now.source) (H.post self.now.source) }
+        requires { Nests self.now.depth (F.pre self.now.inside) (F.post self.now.inside) }
         ensures { Reads (reads_part self.now.depth spec.Having tokens.old) result tokens.new }
     {
-        if !tokens.eat(Keyword::Having) {
+        if !tokens.eat(Mark::Keyword(Keyword::Having)) {
             return Ok(None);
         }
         let condition = self.inner(tokens)?;
@@ -182,84 +181,80 @@ impl<
     // [ASC | DESC]
     #[tactic(auto, using(crate::proofs::Step::gives))]
     pub(crate) fn direction(&self, tokens: &mut Tokens<'_>) -> Result<bool, Fail>
-        requires { Nests self.now.depth (F.pre self.now.expression) (F.post self.now.expression) (G.pre self.now.query) (G.post self.now.query) (H.pre self.now.source) (H.post self.now.source) }
+        requires { Nests self.now.depth (F.pre self.now.inside) (F.post self.now.inside) }
         ensures { Reads (reads_part self.now.depth spec.Direction tokens.old) result tokens.new }
     {
-        if tokens.eat(Keyword::Desc) {
+        if tokens.eat(Mark::Keyword(Keyword::Desc)) {
             return Ok(true);
         }
-        tokens.eat(Keyword::Asc);
+        tokens.eat(Mark::Keyword(Keyword::Asc));
         Ok(false)
     }
 
     // [NULLS FIRST | NULLS LAST]
     #[tactic(auto, using(crate::proofs::Step::gives))]
     pub(crate) fn nulls(&self, tokens: &mut Tokens<'_>) -> Result<Option<Nulls>, Fail>
-        requires { Nests self.now.depth (F.pre self.now.expression) (F.post self.now.expression) (G.pre self.now.query) (G.post self.now.query) (H.pre self.now.source) (H.post self.now.source) }
+        requires { Nests self.now.depth (F.pre self.now.inside) (F.post self.now.inside) }
         ensures { Reads (reads_part self.now.depth spec.Nulls tokens.old) result tokens.new }
     {
-        if !tokens.eat_word("nulls") {
+        if !tokens.eat(Mark::Word("nulls")) {
             return Ok(None);
         }
-        if tokens.eat_word("first") {
+        if tokens.eat(Mark::Word("first")) {
             return Ok(Some(Nulls::First));
         }
-        tokens.expect_word("last")?;
+        tokens.expect(Mark::Word("last"))?;
         Ok(Some(Nulls::Last))
     }
 
     #[tactic(auto, using(crate::proofs::Step::gives))]
     pub(crate) fn key(&self, tokens: &mut Tokens<'_>) -> Result<Key, Fail>
-        requires { Nests self.now.depth (F.pre self.now.expression) (F.post self.now.expression) (G.pre self.now.query) (G.post self.now.query) (H.pre self.now.source) (H.post self.now.source) }
+        requires { Nests self.now.depth (F.pre self.now.inside) (F.post self.now.inside) }
         ensures { Reads (reads_part self.now.depth spec.Key tokens.old) result tokens.new }
     {
-        let value = self.inner(tokens)?;
+        let value = Held::new(self.inner(tokens)?);
         let is_descending = self.direction(tokens)?;
         let nulls = self.nulls(tokens)?;
         Ok(Key {
-            value,
+            value: value.into_inner(),
             is_descending,
             nulls,
         })
     }
 
-    // {, key}
-    pub(crate) fn more_keys(&self, tokens: &mut Tokens<'_>) -> Result<List<Key>, Fail>
-        requires { Nests self.now.depth (F.pre self.now.expression) (F.post self.now.expression) (G.pre self.now.query) (G.post self.now.query) (H.pre self.now.source) (H.post self.now.source) }
-        ensures { Reads (links_from (by w.COMMA) (reads_part self.now.depth spec.Key) alone (length tokens.old) [] tokens.old) result tokens.new }
+    // key {, key}
+    fn keys(&self, tokens: &mut Tokens<'_>) -> Result<List<Key>, Fail>
+        requires { Nests self.now.depth (F.pre self.now.inside) (F.post self.now.inside) }
+        ensures { Reads (reads self.now.depth (list_of (part spec.Key)) tokens.old) result tokens.new }
     {
-        let mut found = List::new(self.alloc);
-        for _turn in 0..tokens.left() {
-            if !tokens.eat_sign(Mark::Comma) {
-                return Ok(found);
-            }
-            found.push(self.key(tokens)?)?;
-        }
-        Ok(found)
+        list(
+            self.alloc,
+            tokens,
+            Mark::Sign(Sign::Comma),
+            |tokens| self.key(tokens),
+        )
     }
 
     // [ORDER BY key {, key}]
     #[tactic(auto, using(crate::proofs::Step::gives))]
     pub(crate) fn order(&self, tokens: &mut Tokens<'_>) -> Result<List<Key>, Fail>
-        requires { Nests self.now.depth (F.pre self.now.expression) (F.post self.now.expression) (G.pre self.now.query) (G.post self.now.query) (H.pre self.now.source) (H.post self.now.source) }
+        requires { Nests self.now.depth (F.pre self.now.inside) (F.post self.now.inside) }
         ensures { Reads (reads_part self.now.depth spec.Order tokens.old) result tokens.new }
     {
-        if !tokens.eat(Keyword::Order) {
+        if !tokens.eat(Mark::Keyword(Keyword::Order)) {
             return Ok(List::new(self.alloc));
         }
-        tokens.expect(Keyword::By)?;
-        let first = self.key(tokens)?;
-        let more = self.more_keys(tokens)?;
-        Ok(joined(self.alloc, first, more)?)
+        tokens.expect(Mark::Keyword(Keyword::By))?;
+        self.keys(tokens)
     }
 
     // ALL | e
     #[tactic(auto, using(crate::proofs::Step::gives))]
     pub(crate) fn limit(&self, tokens: &mut Tokens<'_>) -> Result<Option<Boxed<Expr>>, Fail>
-        requires { Nests self.now.depth (F.pre self.now.expression) (F.post self.now.expression) (G.pre self.now.query) (G.post self.now.query) (H.pre self.now.source) (H.post self.now.source) }
+        requires { Nests self.now.depth (F.pre self.now.inside) (F.post self.now.inside) }
         ensures { Reads (reads_part self.now.depth spec.Limit tokens.old) result tokens.new }
     {
-        if tokens.eat(Keyword::All) {
+        if tokens.eat(Mark::Keyword(Keyword::All)) {
             return Ok(None);
         }
         let count = self.inner(tokens)?;
@@ -269,10 +264,10 @@ impl<
     // [OFFSET e]
     #[tactic(auto, using(crate::proofs::Step::gives))]
     pub(crate) fn offset(&self, tokens: &mut Tokens<'_>) -> Result<Option<Boxed<Expr>>, Fail>
-        requires { Nests self.now.depth (F.pre self.now.expression) (F.post self.now.expression) (G.pre self.now.query) (G.post self.now.query) (H.pre self.now.source) (H.post self.now.source) }
+        requires { Nests self.now.depth (F.pre self.now.inside) (F.post self.now.inside) }
         ensures { Reads (reads_part self.now.depth spec.Offset tokens.old) result tokens.new }
     {
-        if !tokens.eat(Keyword::Offset) {
+        if !tokens.eat(Mark::Keyword(Keyword::Offset)) {
             return Ok(None);
         }
         let count = self.inner(tokens)?;
@@ -285,39 +280,49 @@ impl<
         &self,
         tokens: &mut Tokens<'_>,
     ) -> Result<(Option<Boxed<Expr>>, Option<Boxed<Expr>>), Fail>
-        requires { Nests self.now.depth (F.pre self.now.expression) (F.post self.now.expression) (G.pre self.now.query) (G.post self.now.query) (H.pre self.now.source) (H.post self.now.source) }
+        requires { Nests self.now.depth (F.pre self.now.inside) (F.post self.now.inside) }
         ensures { Reads (reads_part self.now.depth spec.Paging tokens.old) result tokens.new }
     {
-        if tokens.eat(Keyword::Limit) {
+        if tokens.eat(Mark::Keyword(Keyword::Limit)) {
             let limit = self.limit(tokens)?;
             let offset = self.offset(tokens)?;
             return Ok((limit, offset));
         }
-        if !tokens.eat(Keyword::Offset) {
+        if !tokens.eat(Mark::Keyword(Keyword::Offset)) {
             return Ok((None, None));
         }
         let offset = self.inner(tokens)?;
         let offset = Boxed::new(self.alloc, offset)?;
-        if tokens.eat(Keyword::Limit) {
+        if tokens.eat(Mark::Keyword(Keyword::Limit)) {
             let limit = self.limit(tokens)?;
             return Ok((limit, Some(offset)));
         }
         Ok((None, Some(offset)))
     }
 
+    // [GROUP BY ..] [HAVING ..] [ORDER BY ..] [LIMIT ..] [OFFSET ..]
     #[tactic(auto, using(crate::proofs::Step::gives))]
-    pub(crate) fn query(&self, tokens: &mut Tokens<'_>) -> Result<Query, Fail>
-        requires { Nests self.now.depth (F.pre self.now.expression) (F.post self.now.expression) (G.pre self.now.query) (G.post self.now.query) (H.pre self.now.source) (H.post self.now.source) }
-        ensures { Reads (reads_part self.now.depth spec.Query tokens.old) result tokens.new }
+    pub(crate) fn ending(&self, tokens: &mut Tokens<'_>) -> Result<Ending, Fail>
+        requires { Nests self.now.depth (F.pre self.now.inside) (F.post self.now.inside) }
+        ensures { Reads (reads self.now.depth spec.ending tokens.old) result tokens.new }
     {
-        tokens.expect(Keyword::Select)?;
-        let (is_distinct, items) = self.selected(tokens)?;
-        let from = self.sources(tokens)?;
-        let condition = self.condition(tokens)?;
         let groups = self.groups(tokens)?;
         let having = self.having(tokens)?;
         let order = self.order(tokens)?;
-        let (limit, offset) = self.paging(tokens)?;
+        let paging = self.paging(tokens)?;
+        Ok((groups, (having, (order, paging))))
+    }
+
+    #[tactic(auto, using(crate::proofs::Step::gives))]
+    pub(crate) fn query(&self, tokens: &mut Tokens<'_>) -> Result<Query, Fail>
+        requires { Nests self.now.depth (F.pre self.now.inside) (F.post self.now.inside) }
+        ensures { Reads (reads_part self.now.depth spec.Query tokens.old) result tokens.new }
+    {
+        tokens.expect(Mark::Keyword(Keyword::Select))?;
+        let (is_distinct, items) = self.selected(tokens)?;
+        let from = self.sources(tokens)?;
+        let condition = self.condition(tokens)?;
+        let (groups, (having, (order, (limit, offset)))) = self.ending(tokens)?;
         Ok(Query {
             is_distinct,
             items,
@@ -331,52 +336,37 @@ impl<
         })
     }
 
-    // {join}
-    pub(crate) fn joins(&self, tokens: &mut Tokens<'_>) -> Result<List<Join>, Fail>
-        requires { Nests self.now.depth (F.pre self.now.expression) (F.post self.now.expression) (G.pre self.now.query) (G.post self.now.query) (H.pre self.now.source) (H.post self.now.source) }
-        ensures { Reads (many_from (firsts spec.Join) (reads_part self.now.depth spec.Join) (length tokens.old) [] tokens.old) result tokens.new }
-    {
-        let mut found = List::new(self.alloc);
-        for _turn in 0..tokens.left() {
-            if !sees_join(tokens) {
-                return Ok(found);
-            }
-            found.push(self.join(tokens)?)?;
-        }
-        Ok(found)
-    }
-
     // What stands in FROM.
     #[tactic(auto, using(crate::proofs::Step::gives))]
     pub(crate) fn source(&self, tokens: &mut Tokens<'_>) -> Result<From, Fail>
-        requires { Nests self.now.depth (F.pre self.now.expression) (F.post self.now.expression) (G.pre self.now.query) (G.post self.now.query) (H.pre self.now.source) (H.post self.now.source) }
+        requires { Nests self.now.depth (F.pre self.now.inside) (F.post self.now.inside) }
         ensures { Reads (reads_part self.now.depth spec.From tokens.old) result tokens.new }
     {
-        let first = self.factor(tokens)?;
-        let joins = self.joins(tokens)?;
-        Ok(joined_of(self.alloc, first, joins)?)
+        let first = Held::new(self.factor(tokens)?);
+        let joins = many(self.alloc, tokens, &JOINS, |tokens| self.join(tokens))?;
+        Ok(joined_of(self.alloc, first.into_inner(), joins)?)
     }
 
     // JOIN factor ON e
     #[tactic(auto, using(crate::proofs::Step::gives))]
     pub(crate) fn joined_on(&self, tokens: &mut Tokens<'_>) -> Result<(From, Boxed<Expr>), Fail>
-        requires { Nests self.now.depth (F.pre self.now.expression) (F.post self.now.expression) (G.pre self.now.query) (G.post self.now.query) (H.pre self.now.source) (H.post self.now.source) }
+        requires { Nests self.now.depth (F.pre self.now.inside) (F.post self.now.inside) }
         ensures { Reads (reads_part self.now.depth spec.JoinedOn tokens.old) result tokens.new }
     {
-        tokens.expect(Keyword::Join)?;
-        let with = self.factor(tokens)?;
-        tokens.expect(Keyword::On)?;
-        let condition = self.inner(tokens)?;
-        Ok((with, Boxed::new(self.alloc, condition)?))
+        tokens.expect(Mark::Keyword(Keyword::Join))?;
+        let with = Held::new(self.factor(tokens)?);
+        tokens.expect(Mark::Keyword(Keyword::On))?;
+        let condition = Boxed::new(self.alloc, self.inner(tokens)?)?;
+        Ok((with.into_inner(), condition))
     }
 
     #[tactic(auto, using(crate::proofs::Step::gives))]
     pub(crate) fn join(&self, tokens: &mut Tokens<'_>) -> Result<Join, Fail>
-        requires { Nests self.now.depth (F.pre self.now.expression) (F.post self.now.expression) (G.pre self.now.query) (G.post self.now.query) (H.pre self.now.source) (H.post self.now.source) }
+        requires { Nests self.now.depth (F.pre self.now.inside) (F.post self.now.inside) }
         ensures { Reads (reads_part self.now.depth spec.Join tokens.old) result tokens.new }
     {
-        if tokens.eat(Keyword::Cross) {
-            tokens.expect(Keyword::Join)?;
+        if tokens.eat(Mark::Keyword(Keyword::Cross)) {
+            tokens.expect(Mark::Keyword(Keyword::Join))?;
             let with = self.factor(tokens)?;
             return Ok(Join {
                 kind: JoinKind::Cross,
@@ -384,8 +374,8 @@ impl<
                 condition: None,
             });
         }
-        if tokens.eat(Keyword::Left) {
-            tokens.eat_word("outer");
+        if tokens.eat(Mark::Keyword(Keyword::Left)) {
+            tokens.eat(Mark::Word("outer"));
             let (with, condition) = self.joined_on(tokens)?;
             return Ok(Join {
                 kind: JoinKind::Left,
@@ -393,7 +383,7 @@ impl<
                 condition: Some(condition),
             });
         }
-        tokens.eat(Keyword::Inner);
+        tokens.eat(Mark::Keyword(Keyword::Inner));
         let (with, condition) = self.joined_on(tokens)?;
         Ok(Join {
             kind: JoinKind::Inner,
@@ -405,10 +395,10 @@ impl<
     // [(arguments)]
     #[tactic(auto, using(crate::proofs::Step::gives))]
     pub(crate) fn call(&self, tokens: &mut Tokens<'_>) -> Result<Option<List<Argument>>, Fail>
-        requires { Nests self.now.depth (F.pre self.now.expression) (F.post self.now.expression) (G.pre self.now.query) (G.post self.now.query) (H.pre self.now.source) (H.post self.now.source) }
+        requires { Nests self.now.depth (F.pre self.now.inside) (F.post self.now.inside) }
         ensures { Reads (reads_part self.now.depth spec.Call tokens.old) result tokens.new }
     {
-        if !tokens.eat_sign(Mark::Open) {
+        if !tokens.eat(Mark::Sign(Sign::Open)) {
             return Ok(None);
         }
         Ok(Some(self.arguments(tokens)?))
@@ -416,45 +406,33 @@ impl<
 
     #[tactic(auto, using(crate::proofs::Step::gives))]
     pub(crate) fn factor(&self, tokens: &mut Tokens<'_>) -> Result<From, Fail>
-        requires { Nests self.now.depth (F.pre self.now.expression) (F.post self.now.expression) (G.pre self.now.query) (G.post self.now.query) (H.pre self.now.source) (H.post self.now.source) }
+        requires { Nests self.now.depth (F.pre self.now.inside) (F.post self.now.inside) }
         ensures { Reads (reads_part self.now.depth spec.Factor tokens.old) result tokens.new }
     {
-        if tokens.sees_name() {
-            let name = tokens.name()?;
+        if tokens.sees(Mark::Name) {
+            let name = tokens.table_name()?;
             let arguments = self.call(tokens)?;
             let alias = self.alias(tokens)?;
             return source_of(name, arguments, alias);
         }
-        tokens.expect_sign(Mark::Open)?;
+        tokens.expect(Mark::Sign(Sign::Open))?;
         self.factor_in_brackets(tokens)
     }
 
     // (query) [[AS] name] | (from), behind the bracket.
     #[tactic(auto, using(crate::proofs::Step::gives))]
     pub(crate) fn factor_in_brackets(&self, tokens: &mut Tokens<'_>) -> Result<From, Fail>
-        requires { Nests self.now.depth (F.pre self.now.expression) (F.post self.now.expression) (G.pre self.now.query) (G.post self.now.query) (H.pre self.now.source) (H.post self.now.source) }
+        requires { Nests self.now.depth (F.pre self.now.inside) (F.post self.now.inside) }
         ensures { Reads (reads_part self.now.depth spec.FactorInBrackets tokens.old) result tokens.new }
     {
-        if tokens.sees(Keyword::Select) {
-            let query = self.inner_query(tokens)?;
-            tokens.expect_sign(Mark::Close)?;
+        if tokens.sees(Mark::Keyword(Keyword::Select)) {
+            let query = Boxed::new(self.alloc, self.inner_query(tokens)?)?;
+            tokens.expect(Mark::Sign(Sign::Close))?;
             let alias = self.alias(tokens)?;
-            let query = Boxed::new(self.alloc, query)?;
             return Ok(From::Subquery { query, alias });
         }
-        let inner = self.inner_source(tokens)?;
-        tokens.expect_sign(Mark::Close)?;
-        Ok(inner)
+        let inner = Held::new(self.inner_source(tokens)?);
+        tokens.expect(Mark::Sign(Sign::Close))?;
+        Ok(inner.into_inner())
     }
-}
-
-// Whether a join begins here.
-#[tactic(auto, using(pl_grammar::proofs::Turns::begins_here, pl_grammar::proofs::Turns::begins_past, pl_grammar::proofs::Turns::begins_none))]
-fn sees_join(tokens: &Tokens<'_>) -> bool
-    ensures { result ≡ begins (firsts spec.Join) tokens.now }
-{
-    tokens.sees(Keyword::Cross)
-        || tokens.sees(Keyword::Left)
-        || tokens.sees(Keyword::Inner)
-        || tokens.sees(Keyword::Join)
 }

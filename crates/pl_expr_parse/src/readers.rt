@@ -5,7 +5,7 @@ ghost use Rattle.pl_expr_parse.specs.Grammar as spec;
 ghost use Rattle.pl_expr_parse.specs.Finished.{reads_front};
 
 use crate::grammar::Grammar;
-use crate::parse::{expression, query, source};
+use crate::parse::inside;
 use pl_base::{List, Name, Ty};
 use pl_grammar::{Fail, Tokens};
 use pl_tree::{Argument, Expr, Item, Query};
@@ -20,9 +20,7 @@ pub fn read_expression(alloc: Global, tokens: &mut Tokens<'_>) -> Result<Expr, F
     Grammar {
         alloc,
         depth,
-        expression,
-        query,
-        source,
+        inside,
     }
     .disjunction(tokens)
 }
@@ -36,9 +34,7 @@ pub fn read_operand(alloc: Global, tokens: &mut Tokens<'_>) -> Result<Expr, Fail
     Grammar {
         alloc,
         depth,
-        expression,
-        query,
-        source,
+        inside,
     }
     .concatenation(tokens)
 }
@@ -52,9 +48,7 @@ pub fn read_query(alloc: Global, tokens: &mut Tokens<'_>) -> Result<Query, Fail>
     Grammar {
         alloc,
         depth,
-        expression,
-        query,
-        source,
+        inside,
     }
     .query(tokens)
 }
@@ -68,9 +62,7 @@ pub fn read_items(alloc: Global, tokens: &mut Tokens<'_>) -> Result<List<Item>, 
     Grammar {
         alloc,
         depth,
-        expression,
-        query,
-        source,
+        inside,
     }
     .items(tokens)
 }
@@ -84,9 +76,7 @@ pub fn read_arguments(alloc: Global, tokens: &mut Tokens<'_>) -> Result<List<Arg
     Grammar {
         alloc,
         depth,
-        expression,
-        query,
-        source,
+        inside,
     }
     .arguments(tokens)
 }
@@ -100,9 +90,7 @@ pub fn read_alias(alloc: Global, tokens: &mut Tokens<'_>) -> Result<Option<Name>
     Grammar {
         alloc,
         depth,
-        expression,
-        query,
-        source,
+        inside,
     }
     .alias(tokens)
 }
@@ -116,9 +104,7 @@ pub fn read_type(alloc: Global, tokens: &mut Tokens<'_>) -> Result<Ty, Fail>
     Grammar {
         alloc,
         depth,
-        expression,
-        query,
-        source,
+        inside,
     }
     .type_name(tokens)
 }

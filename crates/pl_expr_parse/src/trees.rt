@@ -1,11 +1,11 @@
 //! What a rule makes of the parts that it reads.
 
-ghost use Rattle.std.specs.Prelude.{[], ◌∷◌, ◌≡◌, IfOk};
+ghost use Rattle.std.specs.Prelude.{◌≡◌, IfOk};
 ghost use Rattle.pl_grammar.specs.Parser.{Makes};
 ghost use Rattle.pl_expr_parse.specs.Trees as spec;
 
 use crate::parts::{Question, Range, Suffix};
-use pl_base::{Boxed, List, Name, Ty};
+use pl_base::{Boxed, Held, List, Name, Ty};
 use pl_grammar::{Fail, joined};
 use pl_tree::{Argument, Expr, Factor, From, Join, Literal, Sign, Term};
 use std::alloc::{AllocError, Global};
@@ -56,8 +56,9 @@ pub(crate) fn test_of(
 ) -> Result<Expr, AllocError>
     ensures { IfOk result (λ x. x ≡ spec.asked operand is_negated question) }
 {
+    let question = Held::new(question);
     let operand = Boxed::new(alloc, operand)?;
-    match question {
+    match question.into_inner() {
         Question::Is(test) => Ok(Expr::Is {
             is_negated,
             operand,
@@ -83,9 +84,11 @@ fn between_of(
 ) -> Result<Expr, AllocError>
     ensures { IfOk result (λ x. x ≡ spec.between_of operand is_negated low high) }
 {
+    let low = Held::new(low);
+    let high = Held::new(high);
     let operand = Boxed::new(alloc, operand)?;
-    let low = Boxed::new(alloc, low)?;
-    let high = Boxed::new(alloc, high)?;
+    let low = Boxed::new(alloc, low.into_inner())?;
+    let high = Boxed::new(alloc, high.into_inner())?;
     Ok(Expr::Between {
         is_negated,
         operand,
@@ -103,17 +106,24 @@ pub(crate) fn range_of(
 ) -> Result<Expr, Fail>
     ensures { Makes (spec.range_of operand is_negated range) result }
 {
+    let operand = Held::new(operand);
     match range {
         None => {
             if is_negated {
                 return Err(Fail::Syntax);
             }
-            Ok(operand)
+            Ok(operand.into_inner())
         }
-        Some(Range::Between(low, high)) => Ok(between_of(alloc, operand, is_negated, low, high)?),
+        Some(Range::Between(low, high)) => Ok(between_of(
+            alloc,
+            operand.into_inner(),
+            is_negated,
+            low,
+            high,
+        )?),
         Some(Range::Like(pattern)) => {
-            let operand = Boxed::new(alloc, operand)?;
             let pattern = Boxed::new(alloc, pattern)?;
+            let operand = Boxed::new(alloc, operand.into_inner())?;
             Ok(Expr::Like {
                 is_negated,
                 operand,
@@ -121,7 +131,7 @@ pub(crate) fn range_of(
             })
         }
         Some(Range::InList(list)) => {
-            let operand = Boxed::new(alloc, operand)?;
+            let operand = Boxed::new(alloc, operand.into_inner())?;
             Ok(Expr::InList {
                 is_negated,
                 operand,
@@ -129,8 +139,8 @@ pub(crate) fn range_of(
             })
         }
         Some(Range::InQuery(query)) => {
-            let operand = Boxed::new(alloc, operand)?;
             let query = Boxed::new(alloc, query)?;
+            let operand = Boxed::new(alloc, operand.into_inner())?;
             Ok(Expr::InQuery {
                 is_negated,
                 operand,
@@ -252,8 +262,9 @@ pub(crate) fn conversion_of(
 pub(crate) fn null_if_of(alloc: Global, first: Expr, second: Expr) -> Result<Expr, AllocError>
     ensures { IfOk result (λ x. x ≡ spec.null_if_of first second) }
 {
+    let second = Held::new(second);
     let first = Boxed::new(alloc, first)?;
-    let second = Boxed::new(alloc, second)?;
+    let second = Boxed::new(alloc, second.into_inner())?;
     Ok(Expr::NullIf(first, second))
 }
 
@@ -271,20 +282,20 @@ pub fn may_have(name: Name, arguments: &[Argument]) -> bool
     well_called(is(name, "plpgsql_check_function"), arguments)
 }
 
-/// The type of this name: a row type where it is no other.
-pub(crate) fn type_of(name: Name) -> Ty
-    ensures { result ≡ spec.type_of name }
+// The type that the server has by this name: a row type where it is no other.
+fn catalogued(name: Name) -> Ty
+    ensures { result ≡ spec.catalogued name }
 {
-    if is(name, "integer") || is(name, "int") || is(name, "int4") {
+    if is(name, "int4") {
         return Ty::Int;
     }
-    if is(name, "bigint") || is(name, "int8") {
+    if is(name, "int8") {
         return Ty::Big;
     }
     if is(name, "text") {
         return Ty::Text;
     }
-    if is(name, "boolean") || is(name, "bool") {
+    if is(name, "bool") {
         return Ty::Bool;
     }
     if is(name, "record") {
@@ -297,6 +308,25 @@ pub(crate) fn type_of(name: Name) -> Ty
         return Ty::Trigger;
     }
     Ty::Row(name)
+}
+
+/// The type of this name, which stands in quotes or not.
+pub(crate) fn type_of(in_quotes: bool, name: Name) -> Ty
+    ensures { result ≡ spec.type_of in_quotes name }
+{
+    if in_quotes {
+        return catalogued(name);
+    }
+    if is(name, "integer") || is(name, "int") {
+        return Ty::Int;
+    }
+    if is(name, "bigint") {
+        return Ty::Big;
+    }
+    if is(name, "boolean") {
+        return Ty::Bool;
+    }
+    catalogued(name)
 }
 
 // Whether all but the last are values, and the last is one too unless it may be named.

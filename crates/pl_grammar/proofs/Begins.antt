@@ -2,10 +2,10 @@
 use Rattle.std.proofs.Common.{◌≡◌, ℕ, zero, suc, Bool, true, false, ◌&&◌, ◌||◌, if◌then◌else◌, List, [], ◌∷◌, ◌++◌, Some, refl, sym, ap, ◌∙◌}
 use Rattle.pl_lex.specs.declared.token.TokenKind.{TokenKind}
 use Rattle.pl_lex.specs.declared.token.TokenKind.TheVariants as kind
-use Rattle.pl_grammar.specs.Marks.{Tokens, Mark, marked, Sort, a_name, a_number, a_text, a_parameter, a_label, Carried, carried, mark_of}
-use Rattle.pl_grammar.specs.Parser.{Parser, among}
+use Rattle.pl_grammar.specs.Marks.{Tokens, Mark, marked, Sort, a_name, a_number, a_text, a_parameter, a_label, a_written_name, a_table_name, a_bare_alias, Carried, carried, mark_of, among}
+use Rattle.pl_grammar.specs.Parser.{Parser}
 use Rattle.pl_grammar.specs.Relations.{Rel, carries, both, behind_mark, before_mark, made, checked, empty, there, absent, with_mark, without, first, second, preferred, otherwise, no_link, joined, unlinked, linked, Many, no_more, one_more}
-use Rattle.pl_grammar.specs.Rule.{Rule, part, inside, given, one, nothing, maybe, ◌before◌, ◌until◌, ◌then◌, make, check, fork, ◌or◌, ahead, prefer, links, link, many, Spelled, Within, Edges, nullable, starts, read_inside, read_part}
+use Rattle.pl_grammar.specs.Rule.{Rule, part, inside, given, one, nothing, maybe, ◌before◌, ◌until◌, ◌then◌, make, check, fork, ◌or◌, ahead, prefer, links, link, many, Spelled, Within, FirstFollow, nullable, starts, read_inside, read_part}
 use Rattle.pl_grammar.specs.Fit.{included, Begun, Told, Fit}
 use Rattle.pl_grammar.proofs.Sets.{among_here, among_more, among_left, among_right, included_among, table_among}
 
@@ -17,6 +17,12 @@ carried_marked a_parameter (kind.Parameter n) a h = refl
 carried_marked a_label (kind.Word n) a h = refl
 carried_marked a_label (kind.Quoted n) a h = refl
 carried_marked a_label (kind.Keyword k) a h = refl
+carried_marked a_written_name (kind.Word n) a h = refl
+carried_marked a_written_name (kind.Quoted n) a h = refl
+carried_marked a_table_name (kind.Word n) a h = refl
+carried_marked a_table_name (kind.Quoted n) a h = refl
+carried_marked a_bare_alias (kind.Word n) a h = refl
+carried_marked a_bare_alias (kind.Quoted n) a h = refl
 carried_marked s t a h = cc
 
 begun_then : (ss us : List Mark) (a b : Bool) (xs ys : Tokens) → Begun ss a xs → Begun us b ys → Begun (ss ++ (if a then us else [])) (a && b) (xs ++ ys)
@@ -56,7 +62,7 @@ begun_included : (ss us : List Mark) (a b : Bool) (xs : Tokens) → included ss 
 begun_included ss us a b [] i e h = sym e ∙ h
 begun_included ss us a b (t ∷ xs) i e h = included_among ss us t i h
 
-module _ {Part : Type 0} {Tree : Part → Type 0} (e : Edges Part) (R : (p : Part) → Rel (Tree p)) (inner here : (p : Part) → Parser (Tree p))
+module _ {Part : Type 0} {Tree : Part → Type 0} (e : FirstFollow Part) (R : (p : Part) → Rel (Tree p)) (inner here : (p : Part) → Parser (Tree p))
     (begin : (p : Part) (a : Tree p) (xs : Tokens) → R p a xs → Begun (e.firsts p) (e.empty p) xs) where
   pub begun : {A : Type 0} (r : Rule Tree A) → Told e R inner here r → (a : A) (xs : Tokens) → Spelled R r a xs → Begun (starts e r) (nullable e r) xs
   begun (part p) l a xs h = begin p a xs h
@@ -85,7 +91,7 @@ module _ {Part : Type 0} {Tree : Part → Type 0} (e : Edges Part) (R : (p : Par
   begun (link table r f) l b xs (linked {o = o} {t = t} h k) = table_among table t o h
   begun (many r) l bs xs h = many_begun (Spelled R r) (starts e r) (nullable e r) (begun r l) bs xs h
 
-pub part_begun : {Part : Type 0} {Tree : Part → Type 0} (rule : (p : Part) → Rule Tree (Tree p)) (e : Edges Part) → ((p : Part) → Fit rule e p) → (h : ℕ) (p : Part) (a : Tree p) (xs : Tokens) → Within rule h p a xs
+pub part_begun : {Part : Type 0} {Tree : Part → Type 0} (rule : (p : Part) → Rule Tree (Tree p)) (e : FirstFollow Part) → ((p : Part) → Fit rule e p) → (h : ℕ) (p : Part) (a : Tree p) (xs : Tokens) → Within rule h p a xs
     → Begun (e.firsts p) (e.empty p) xs
 part_begun rule e fit zero p a xs k = absurd k
 part_begun rule e fit (suc h) p a xs k =

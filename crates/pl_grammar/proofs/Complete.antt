@@ -1,10 +1,10 @@
 -- What a rule spells is read, and as that tree.
 use Rattle.std.proofs.Common.{◌≡◌, ℕ, zero, suc, ◌<◌, ◌≤◌, Bool, true, false, not, ◌&&◌, ◌||◌, if◌then◌else◌, List, [], ◌∷◌, ◌++◌, length, Option, Some, None, refl, sym, ap, ◌∙◌, subst, append_assoc, append-nil, length-append, arith}
 use Rattle.pl_lex.specs.declared.token.TokenKind.{TokenKind}
-use Rattle.pl_grammar.specs.Marks.{Tokens, Mark, marked, Sort, Carried}
-use Rattle.pl_grammar.specs.Parser.{Parser, and_then, pure, with_rest, sees, after, eat, expect, take, begins, among, joins, links_turn, links_from, link_at, many_turn, many_from}
+use Rattle.pl_grammar.specs.Marks.{Tokens, Mark, marked, Sort, Carried, sees, after, begins, among}
+use Rattle.pl_grammar.specs.Parser.{Parser, and_then, pure, with_rest, eat, expect, take, joins, links_turn, links_from, link_at, many_turn, many_from}
 use Rattle.pl_grammar.specs.Relations.{Rel, One, carries, Then, both, Before, behind_mark, Until, before_mark, Made, made, Checked, checked, Empty, empty, Maybe, there, absent, Fork, with_mark, without, Either, first as by_first, second as by_second, Prefer, preferred, otherwise, Links, no_link, joined, Link, unlinked, linked, Many, no_more, one_more}
-use Rattle.pl_grammar.specs.Rule.{Rule, part, inside, given, one, nothing, maybe, ◌before◌, ◌until◌, ◌then◌, make, check, fork, ◌or◌, ahead, prefer, links, link, many, Spelled, Edges, words, nullable, starts, read}
+use Rattle.pl_grammar.specs.Rule.{Rule, part, inside, given, one, nothing, maybe, ◌before◌, ◌until◌, ◌then◌, make, check, fork, ◌or◌, ahead, prefer, links, link, many, Spelled, FirstFollow, words, nullable, starts, read}
 use Rattle.pl_grammar.specs.Fit.{apart_all, clear, stops, fits, guarded, Ends, Begun, Told}
 use Rattle.pl_grammar.proofs.Tools.{Gives, bind_gives, expect_gives, after_mark, after_false}
 use Rattle.pl_grammar.proofs.Sets.{and_true, not_true, either_false, false_unless, apart_all_off, unmarked, clear_off, clear_off_left, ends_both, table_among, table_none}
@@ -210,14 +210,14 @@ or_not true b h k = refl
 or_not false true h k = absurd (cc)
 or_not false false h k = absurd (cc)
 
-module _ {Part : Type 0} {Tree : Part → Type 0} (e : Edges Part) (R : (p : Part) → Rel (Tree p)) (inner here : (p : Part) → Parser (Tree p))
-    (begin : (p : Part) (a : Tree p) (xs : Tokens) → R p a xs → Begun (e.firsts p) (e.empty p) xs) (n : ℕ) (inner_complete : (p : Part) → e.behind p ≡ false → Complete n (inner p) (R p) (e.goes_on p))
-    (behind_complete' : (p : Part) → Complete n (here p) (R p) (e.goes_on p)) where
+module _ {Part : Type 0} {Tree : Part → Type 0} (e : FirstFollow Part) (R : (p : Part) → Rel (Tree p)) (inner here : (p : Part) → Parser (Tree p))
+    (begin : (p : Part) (a : Tree p) (xs : Tokens) → R p a xs → Begun (e.firsts p) (e.empty p) xs) (n : ℕ) (inner_complete : (p : Part) → e.behind p ≡ false → Complete n (inner p) (R p) (e.follow_last p))
+    (behind_complete' : (p : Part) → Complete n (here p) (R p) (e.follow_last p)) where
   -- the parts that may stand at the first token
   abbrev Here : ℕ → Type 0
-  Here m = (p : Part) → e.behind p ≡ false → Complete m (here p) (R p) (e.goes_on p)
+  Here m = (p : Part) → e.behind p ≡ false → Complete m (here p) (R p) (e.follow_last p)
 
-  here_at : (m : ℕ) → n ≤ m → m ≤ suc n → Here m → (p : Part) (b : Bool) → e.behind p ≡ b → (n < m → not b ≡ true) → Complete m (here p) (R p) (e.goes_on p)
+  here_at : (m : ℕ) → n ≤ m → m ≤ suc n → Here m → (p : Part) (b : Bool) → e.behind p ≡ b → (n < m → not b ≡ true) → Complete m (here p) (R p) (e.follow_last p)
   here_at m lo hi c p false h g = c p h
   here_at m lo hi c p true h g = λ a front rest k low end.
       let no : n < m → ⊥ = λ l. let x = g l in cc in
@@ -304,5 +304,5 @@ module _ {Part : Type 0} {Tree : Part → Type 0} (e : Edges Part) (R : (p : Par
   later r f t = complete n (omega arith) (omega arith) (λ p own. behind_complete' p) r f t (λ l. absurd (omega arith))
 
   -- at the first token, where a part inside is read with one token fewer
-  pub first : ((p : Part) → e.behind p ≡ false → Complete (suc n) (here p) (R p) (e.goes_on p)) → {A : Type 0} (r : Rule Tree A) → fits e r ≡ true → Told e R inner here r → guarded e r ≡ true → Complete (suc n) (read e inner here r) (Spelled R r) (stops e r)
+  pub first : ((p : Part) → e.behind p ≡ false → Complete (suc n) (here p) (R p) (e.follow_last p)) → {A : Type 0} (r : Rule Tree A) → fits e r ≡ true → Told e R inner here r → guarded e r ≡ true → Complete (suc n) (read e inner here r) (Spelled R r) (stops e r)
   first c r f t g = complete (suc n) (omega arith) (omega arith) c r f t (λ l. g)

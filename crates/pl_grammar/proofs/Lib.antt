@@ -7,5 +7,7 @@ pub mod Begins
 pub mod Complete
 pub mod Theorem
 pub mod Turns
+pub mod ItemTurns
+pub mod WholeTexts
 pub mod DeepSteps
 pub mod Plain

@@ -1,9 +1,8 @@
 -- Rules that neither look ahead nor stand on another grammar.
 use Rattle.std.proofs.Common.{◌≡◌, Bool, true, false, ◌&&◌, refl}
-use Rattle.pl_grammar.specs.Marks.{Tokens}
 use Rattle.pl_grammar.specs.Parser.{Parser}
 use Rattle.pl_grammar.specs.Relations.{Rel}
-use Rattle.pl_grammar.specs.Rule.{Rule, part, inside, given, one, nothing, maybe, ◌before◌, ◌until◌, ◌then◌, make, check, fork, ◌or◌, ahead, prefer, links, link, many, Edges}
+use Rattle.pl_grammar.specs.Rule.{Rule, part, inside, given, one, nothing, maybe, ◌before◌, ◌until◌, ◌then◌, make, check, fork, ◌or◌, ahead, prefer, links, link, many, FirstFollow}
 use Rattle.pl_grammar.specs.Fit.{Told}
 
 pub split : (a b : Bool) → (a && b) ≡ true → (a ≡ true) × (b ≡ true)
@@ -31,7 +30,7 @@ module _ {Part : Type 0} {Tree : Part → Type 0} where
   plain (link table r f) = plain r
   plain (many r) = plain r
 
-  module _ (e : Edges Part) (R : (p : Part) → Rel (Tree p)) (inner here : (p : Part) → Parser (Tree p)) where
+  module _ (e : FirstFollow Part) (R : (p : Part) → Rel (Tree p)) (inner here : (p : Part) → Parser (Tree p)) where
     pub plain_told : {A : Type 0} (r : Rule Tree A) → plain r ≡ true → Told e R inner here r
     plain_told (part p) h = tt
     plain_told (inside p) h = tt

@@ -1,15 +1,15 @@
 -- How a part is read depends on the parts of lower rank only, so that it can be read by its own rule.
 use Rattle.std.proofs.Common.{◌≡◌, ℕ, zero, suc, ◌<◌, Bool, true, false, ◌&&◌, if◌then◌else◌, List, [], length, refl, ap, ap₂, arith, ltb-true, Option, Some}
-use Rattle.pl_grammar.specs.Marks.{Tokens}
-use Rattle.pl_grammar.specs.Parser.{Parser, and_then, with_rest, sees, after, expect, begins, joins, links_from, link_at, many_from}
-use Rattle.pl_grammar.specs.Rule.{Rule, part, inside, given, one, nothing, maybe, ◌before◌, ◌until◌, ◌then◌, make, check, fork, ◌or◌, ahead, prefer, links, link, many, Edges, starts, read, read_below, read_inside, read_part}
+use Rattle.pl_grammar.specs.Marks.{Tokens, sees, after, begins}
+use Rattle.pl_grammar.specs.Parser.{Parser, and_then, with_rest, expect, joins, links_from, link_at, many_from}
+use Rattle.pl_grammar.specs.Rule.{Rule, part, inside, given, one, nothing, maybe, ◌before◌, ◌until◌, ◌then◌, make, check, fork, ◌or◌, ahead, prefer, links, link, many, FirstFollow, starts, read, read_below, read_inside, read_part}
 use Rattle.pl_grammar.specs.Fit.{ranked}
 
 split_and : (a b : Bool) → (a && b) ≡ true → (a ≡ true) × (b ≡ true)
 split_and true b h = (refl, h)
 split_and false b h = absurd (cc)
 
-module _ {Part : Type 0} {Tree : Part → Type 0} (e : Edges Part) (inner here here' : (p : Part) → Parser (Tree p)) where
+module _ {Part : Type 0} {Tree : Part → Type 0} (e : FirstFollow Part) (inner here here' : (p : Part) → Parser (Tree p)) where
   pub read_same : (k : ℕ) → ((p : Part) → e.rank p < k → here p ≡ here' p) → {A : Type 0} (r : Rule Tree A) → ranked e.rank k r ≡ true → read e inner here r ≡ read e inner here' r
   read_same k same (part p) h = same p (ltb-true (e.rank p) k h)
   read_same k same (inside p) h = refl
@@ -40,7 +40,7 @@ module _ {Part : Type 0} {Tree : Part → Type 0} (e : Edges Part) (inner here h
   read_same k same (link {A = A} {B = B} table r f) h = ap {B = Parser (Option B)} (λ (p : Parser A) ts. link_at table p f (joins table ts) ts) (read_same k same r h)
   read_same k same (many {A = A} r) h = ap {B = Parser (List A)} (λ (p : Parser A) ts. many_from (starts e r) p (length ts) [] ts) (read_same k same r h)
 
-module _ {Part : Type 0} {Tree : Part → Type 0} (rule : (p : Part) → Rule Tree (Tree p)) (e : Edges Part) where
+module _ {Part : Type 0} {Tree : Part → Type 0} (rule : (p : Part) → Rule Tree (Tree p)) (e : FirstFollow Part) where
   pub inside_is : (d : ℕ) (p : Part) (ts : Tokens) → read_inside rule e (suc d) p ts ≡ read_part rule e d p ts
   unfolding read_inside read_part
   inside_is d p ts = refl

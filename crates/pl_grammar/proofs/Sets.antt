@@ -8,8 +8,7 @@ use Rattle.pl_lex.specs.declared.keyword.Keyword.{Keyword}
 use Rattle.pl_lex.specs.declared.sign.Sign.{Sign}
 use Rattle.pl_lex.specs.declared.token.TokenKind.{TokenKind}
 use Rattle.pl_lex.specs.declared.token.TokenKind.TheVariants as kind
-use Rattle.pl_grammar.specs.Marks.{Tokens, Mark, keyword, sign, word, name, number, text, parameter, label, same_keyword, same_sign, same_text, marked}
-use Rattle.pl_grammar.specs.Parser.{among, joined_by}
+use Rattle.pl_grammar.specs.Marks.{Tokens, Mark, keyword, sign, word, name, number, text, parameter, label, same_keyword, same_sign, same_text, marked, among, joined_by}
 use Rattle.pl_grammar.specs.Rule.{words}
 use Rattle.pl_grammar.specs.Fit.{apart, apart_all, clear, same_mark, member, included, Ends}
 

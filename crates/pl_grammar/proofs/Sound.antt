@@ -1,10 +1,10 @@
 -- What is read by a rule is spelled by it.
 use Rattle.std.proofs.Common.{◌≡◌, ℕ, zero, suc, Bool, true, false, if◌then◌else◌, List, [], ◌∷◌, ◌++◌, length, Option, Some, None, refl, sym, ap, ◌∙◌, subst, append_assoc, append-nil}
 use Rattle.pl_lex.specs.declared.token.TokenKind.{TokenKind}
-use Rattle.pl_grammar.specs.Marks.{Tokens, Mark, Sort, carried}
-use Rattle.pl_grammar.specs.Parser.{Parser, and_then, pure, with_rest, sees, after, eat, expect, take, begins, joined_by, joins, links_turn, links_from, link_at, many_turn, many_from}
+use Rattle.pl_grammar.specs.Marks.{Tokens, Mark, Sort, carried, sees, after, begins, joined_by}
+use Rattle.pl_grammar.specs.Parser.{Parser, and_then, pure, with_rest, eat, expect, take, joins, links_turn, links_from, link_at, many_turn, many_from}
 use Rattle.pl_grammar.specs.Relations.{Rel, One, carries, Then, both, Before, behind_mark, Until, before_mark, Made, made, Checked, checked, Empty, empty, Maybe, there, absent, Fork, with_mark, without, Either, first, second, Prefer, preferred, otherwise, Links, no_link, joined, Link, unlinked, linked, Many, no_more, one_more}
-use Rattle.pl_grammar.specs.Rule.{Rule, Given, part, inside, given, one, nothing, maybe, ◌before◌, ◌until◌, ◌then◌, make, check, fork, ◌or◌, ahead, prefer, links, link, many, Edges, starts, read, Spelled, Within, SpelledBy, read_below, read_inside, read_part}
+use Rattle.pl_grammar.specs.Rule.{Rule, Given, part, inside, given, one, nothing, maybe, ◌before◌, ◌until◌, ◌then◌, make, check, fork, ◌or◌, ahead, prefer, links, link, many, FirstFollow, starts, read, Spelled, Within, SpelledBy, read_below, read_inside, read_part}
 use Rattle.pl_grammar.proofs.Tools.{Gives, Front, Sound, bind_some, same_pair, rest_some, expected, after_true, after_false}
 use Rattle.pl_grammar.specs.Fit.{Fit, Told, Lawful}
 use Rattle.pl_grammar.proofs.Heights.{spelled_by}
@@ -240,7 +240,7 @@ Finished (links table r f) = Finished r
 Finished (link table r f) = Finished r
 Finished (many r) = Finished r
 
-module _ {Part : Type 0} {Tree : Part → Type 0} (e : Edges Part) (R : (p : Part) → Rel (Tree p)) (inner here : (p : Part) → Parser (Tree p)) where
+module _ {Part : Type 0} {Tree : Part → Type 0} (e : FirstFollow Part) (R : (p : Part) → Rel (Tree p)) (inner here : (p : Part) → Parser (Tree p)) where
   finished : {A : Type 0} (r : Rule Tree A) → Told e R inner here r → Finished r
   finished (part p) t = tt
   finished (inside p) t = tt
@@ -264,7 +264,7 @@ module _ {Part : Type 0} {Tree : Part → Type 0} (e : Edges Part) (R : (p : Par
 given_sound : {A : Type 0} (g : Given A) → Lawful g → Sound g.reader g.spells
 given_sound g l ts a rest h = let f = l.sound ts rest a h in record { front = f.0; is = f.1; spells = f.2 }
 
-pub sound : {Part : Type 0} {Tree : Part → Type 0} (e : Edges Part) (R : (p : Part) → Rel (Tree p)) (inner here : (p : Part) → Parser (Tree p)) → ((p : Part) → Sound (inner p) (R p)) → ((p : Part) → Sound (here p) (R p)) → {A : Type 0} (r : Rule Tree A) → Finished r → Sound (read e inner here r) (Spelled R r)
+pub sound : {Part : Type 0} {Tree : Part → Type 0} (e : FirstFollow Part) (R : (p : Part) → Rel (Tree p)) (inner here : (p : Part) → Parser (Tree p)) → ((p : Part) → Sound (inner p) (R p)) → ((p : Part) → Sound (here p) (R p)) → {A : Type 0} (r : Rule Tree A) → Finished r → Sound (read e inner here r) (Spelled R r)
 sound e R inner here i s (part p) t = s p
 sound e R inner here i s (inside p) t = i p
 sound e R inner here i s (given g) t = given_sound g t
@@ -286,7 +286,7 @@ sound e R inner here i s (many r) t = many_sound (starts e r) (read e inner here
 
 -- ---- the parts of a grammar
 
-module _ {Part : Type 0} {Tree : Part → Type 0} (rule : (p : Part) → Rule Tree (Tree p)) (e : Edges Part) (fit : (p : Part) → Fit rule e p) where
+module _ {Part : Type 0} {Tree : Part → Type 0} (rule : (p : Part) → Rule Tree (Tree p)) (e : FirstFollow Part) (fit : (p : Part) → Fit rule e p) where
   part_finished : (p : Part) → Finished (rule p)
   part_finished p = finished e (Within rule 0) (read_inside rule e 0) (read_part rule e 0) (rule p) ((fit p).told 0 0)
 

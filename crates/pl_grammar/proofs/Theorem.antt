@@ -3,7 +3,7 @@ use Rattle.std.proofs.Common.{◌≡◌, ℕ, zero, suc, ◌<◌, Bool, true, fa
 use Rattle.pl_grammar.specs.Marks.{Tokens, Mark}
 use Rattle.pl_grammar.specs.Parser.{Parser}
 use Rattle.pl_grammar.specs.Relations.{Rel}
-use Rattle.pl_grammar.specs.Rule.{Rule, Edges, Within, SpelledBy, read, read_inside, read_part}
+use Rattle.pl_grammar.specs.Rule.{Rule, FirstFollow, Within, SpelledBy, read, read_inside, read_part}
 use Rattle.pl_grammar.specs.Fit.{Fit, included, stops, guarded}
 use Rattle.pl_grammar.proofs.Tools.{Gives, Sound, same_pair}
 use Rattle.pl_grammar.proofs.Sets.{ends_included}
@@ -17,37 +17,37 @@ none_left : (ts : Tokens) → length ts ≡ 0 → ts ≡ []
 none_left [] h = refl
 none_left (t ∷ ts) h = absurd (omega arith)
 
-module _ {Part : Type 0} {Tree : Part → Type 0} (rule : (p : Part) → Rule Tree (Tree p)) (e : Edges Part) where
+module _ {Part : Type 0} {Tree : Part → Type 0} (rule : (p : Part) → Rule Tree (Tree p)) (e : FirstFollow Part) where
   inside_complete : (d : ℕ) (p : Part) (R : Rel (Tree p)) (ms : List Mark) → ((d : ℕ) → Complete (suc d) (read_part rule e d p) R ms) → Complete d (read_inside rule e d p) R ms
   unfolding read_inside read_part
   inside_complete zero p R ms c a front rest h low end = absurd (omega arith)
   inside_complete (suc d) p R ms c a front rest h low end = c d a front rest h low end
 
   module _ (fit : (p : Part) → Fit rule e p) (reads_is : (d : ℕ) (p : Part) (ts : Tokens) → read_part rule e d p ts ≡ read e (read_inside rule e d) (read_part rule e d) (rule p) ts) where
-    complete_both : (h d : ℕ) (p : Part) → Complete d (read_part rule e d p) (Within rule h p) (e.goes_on p) × (e.behind p ≡ false → Complete (suc d) (read_part rule e d p) (Within rule h p) (e.goes_on p))
+    complete_both : (h d : ℕ) (p : Part) → Complete d (read_part rule e d p) (Within rule h p) (e.follow_last p) × (e.behind p ≡ false → Complete (suc d) (read_part rule e d p) (Within rule h p) (e.follow_last p))
     complete_both zero d p = (λ a front rest k low end. absurd k, λ own a front rest k low end. absurd k)
     complete_both (suc h) d p =
         let f = fit p in
-        let inner = λ (q : Part) (own : e.behind q ≡ false). inside_complete d q (Within rule h q) (e.goes_on q) (λ d. (complete_both h d q).1 own) in
+        let inner = λ (q : Part) (own : e.behind q ≡ false). inside_complete d q (Within rule h q) (e.follow_last q) (λ d. (complete_both h d q).1 own) in
         let all = λ (q : Part). (complete_both h d q).0 in
         let own = λ (q : Part). (complete_both h d q).1 in (
-          stricter d (read e (read_inside rule e d) (read_part rule e d) (rule p)) (read_part rule e d p) (Within rule (suc h) p) (stops e (rule p)) (e.goes_on p) f.stops (reads_is d p)
+          stricter d (read e (read_inside rule e d) (read_part rule e d) (rule p)) (read_part rule e d p) (Within rule (suc h) p) (stops e (rule p)) (e.follow_last p) f.stops (reads_is d p)
               (later e (Within rule h) (read_inside rule e d) (read_part rule e d) (part_begun rule e fit h) d inner all (rule p) f.fits (f.told h d)),
-          λ free. stricter (suc d) (read e (read_inside rule e d) (read_part rule e d) (rule p)) (read_part rule e d p) (Within rule (suc h) p) (stops e (rule p)) (e.goes_on p) f.stops (reads_is d p)
+          λ free. stricter (suc d) (read e (read_inside rule e d) (read_part rule e d) (rule p)) (read_part rule e d p) (Within rule (suc h) p) (stops e (rule p)) (e.follow_last p) f.stops (reads_is d p)
               (first e (Within rule h) (read_inside rule e d) (read_part rule e d) (part_begun rule e fit h) d inner all own (rule p) f.fits (f.told h d)
               (ap (λ (b : Bool). b || guarded e (rule p)) (sym free) ∙ f.guarded)),
         )
 
     -- any part is read with one token fewer
-    pub complete_any : (h d : ℕ) (p : Part) → Complete d (read_part rule e d p) (Within rule h p) (e.goes_on p)
+    pub complete_any : (h d : ℕ) (p : Part) → Complete d (read_part rule e d p) (Within rule h p) (e.follow_last p)
     complete_any h d p = (complete_both h d p).0
 
     -- a part that isn't behind a token is read
-    pub complete_part : (h d : ℕ) (p : Part) → e.behind p ≡ false → Complete (suc d) (read_part rule e d p) (Within rule h p) (e.goes_on p)
+    pub complete_part : (h d : ℕ) (p : Part) → e.behind p ≡ false → Complete (suc d) (read_part rule e d p) (Within rule h p) (e.follow_last p)
     complete_part h d p = (complete_both h d p).1
 
-    pub complete_inside : (h d : ℕ) (p : Part) → e.behind p ≡ false → Complete d (read_inside rule e d p) (Within rule h p) (e.goes_on p)
-    complete_inside h d p own = inside_complete d p (Within rule h p) (e.goes_on p) (λ d. complete_part h d p own)
+    pub complete_inside : (h d : ℕ) (p : Part) → e.behind p ≡ false → Complete d (read_inside rule e d p) (Within rule h p) (e.follow_last p)
+    complete_inside h d p own = inside_complete d p (Within rule h p) (e.follow_last p) (λ d. complete_part h d p own)
 
     -- ---- whole texts
 

@@ -1,8 +1,8 @@
 -- Laws of parsers on lists.
-use Rattle.std.proofs.Common.{◌≡◌, ℕ, zero, suc, Bool, true, false, if◌then◌else◌, List, [], ◌∷◌, ◌++◌, length, drop, Option, Some, None, refl, sym, ap, ◌∙◌}
+use Rattle.std.proofs.Common.{◌≡◌, Bool, true, false, if◌then◌else◌, [], ◌∷◌, ◌++◌, drop, Option, Some, None, refl, sym, ap, ◌∙◌}
 use Rattle.pl_lex.specs.declared.token.TokenKind.{TokenKind}
-use Rattle.pl_grammar.specs.Marks.{Tokens, Mark, marked}
-use Rattle.pl_grammar.specs.Parser.{Outcome, Parser, and_then, pure, with_rest, sees, after, expect}
+use Rattle.pl_grammar.specs.Marks.{Tokens, Mark, marked, sees, after}
+use Rattle.pl_grammar.specs.Parser.{Outcome, Parser, and_then, pure, with_rest, expect}
 use Rattle.pl_grammar.specs.Relations.{Rel}
 
 -- this is what is read, and what is left

@@ -1,7 +1,7 @@
 -- The turns of a loop, beside the recursion on a count of turns.
 use Rattle.std.proofs.Common.{◌≡◌, ℕ, suc, ◌+◌, ◌-◌, ◌<◌, ◌≤◌, Bool, true, false, if◌then◌else◌, List, [], ◌∷◌, ◌++◌, drop, Option, Some, None, refl, sym, ap, ◌∙◌, arith}
-use Rattle.pl_grammar.specs.Marks.{Tokens, Mark, marked}
-use Rattle.pl_grammar.specs.Parser.{Outcome, Parser, and_then, sees, after, among, begins, joined_by, joins, links_turn, links_from, many_turn, many_from}
+use Rattle.pl_grammar.specs.Marks.{Tokens, Mark, sees, after, among, begins, joined_by}
+use Rattle.pl_grammar.specs.Parser.{Parser, and_then, joins, links_turn, links_from, many_turn, many_from}
 use Rattle.pl_grammar.specs.Forms.{by}
 
 pub one_turn : {X : Type 0} {x : X} (f : ℕ → X) (n at : ℕ) → at < n → x ≡ f (n - at) → x ≡ f (suc (n - (at + 1)))

@@ -1,9 +1,9 @@
 -- The tests under which what a grammar spells is read, and read as one tree. They compute.
-use Rattle.std.specs.Prelude.{◌≡◌, ℕ, Bool, true, false, not, ◌&&◌, ◌||◌, nat_lt, if◌then◌else◌, List, [], ◌∷◌, ◌++◌, Option, Some}
-use Rattle.pl_grammar.specs.Marks.{Tokens, Mark, keyword, sign, word, name, number, text, parameter, label, same_keyword, same_sign, same_text}
-use Rattle.pl_grammar.specs.Parser.{Parser, among}
+use Rattle.std.specs.Prelude.{◌≡◌, ℕ, Bool, true, false, not, ◌&&◌, ◌||◌, nat_lt, if◌then◌else◌, List, [], ◌∷◌, ◌++◌, Some}
+use Rattle.pl_grammar.specs.Marks.{Tokens, Mark, keyword, sign, word, name, number, text, parameter, label, same_keyword, same_sign, same_text, among}
+use Rattle.pl_grammar.specs.Parser.{Parser}
 use Rattle.pl_grammar.specs.Relations.{Rel}
-use Rattle.pl_grammar.specs.Rule.{Rule, Given, part, inside, given, one, nothing, maybe, ◌before◌, ◌until◌, ◌then◌, make, check, fork, ◌or◌, ahead, prefer, links, link, many, Edges, words, nullable, starts, read, Spelled, Within, read_inside, read_part}
+use Rattle.pl_grammar.specs.Rule.{Rule, Given, part, inside, given, one, nothing, maybe, ◌before◌, ◌until◌, ◌then◌, make, check, fork, ◌or◌, ahead, prefer, links, link, many, FirstFollow, words, nullable, starts, read, Spelled, Within, read_inside, read_part}
 
 -- no token has both
 abbrev pub apart : Mark → Mark → Bool
@@ -52,12 +52,12 @@ abbrev pub included : List Mark → List Mark → Bool
 included [] ns = true
 included (m ∷ ms) ns = member m ns && included ms ns
 
-module _ {Part : Type 0} {Tree : Part → Type 0} (e : Edges Part) where
+module _ {Part : Type 0} {Tree : Part → Type 0} (e : FirstFollow Part) where
   -- the marks that would go on with it
   abbrev pub stops : {A : Type 0} → Rule Tree A → List Mark
-  stops (part p) = e.goes_on p
-  stops (inside p) = e.goes_on p
-  stops (given g) = g.goes_on
+  stops (part p) = e.follow_last p
+  stops (inside p) = e.follow_last p
+  stops (given g) = g.follow_last
   stops (one s) = []
   stops (nothing a) = []
   stops (maybe m) = m ∷ []
@@ -95,7 +95,7 @@ module _ {Part : Type 0} {Tree : Part → Type 0} (e : Edges Part) where
   fits (link table r f) = fits r
   fits (many r) = fits r && not (nullable e r) && clear (starts e r) (stops r)
 
-module _ {Part : Type 0} {Tree : Part → Type 0} (e : Edges Part) where
+module _ {Part : Type 0} {Tree : Part → Type 0} (e : FirstFollow Part) where
   -- what stands inside or behind a token has one beside it
   abbrev pub guarded : {A : Type 0} → Rule Tree A → Bool
   guarded (part p) = not (e.behind p)
@@ -152,12 +152,12 @@ Begun ms is_empty (t ∷ ts) = among ms t ≡ true
 -- another grammar is as it is said to be: what is read is spelled so, what is spelled is read where it ends, and it begins so
 pub record Lawful {A : Type 0} (g : Given A) : Type 0 where
   pub sound : (ts rest : Tokens) (a : A) → g.reader ts ≡ Some (a, rest) → (front : Tokens) × (ts ≡ front ++ rest) × g.spells a front
-  pub complete : (a : A) (front rest : Tokens) → g.spells a front → Ends g.goes_on rest → g.reader (front ++ rest) ≡ Some (a, rest)
+  pub complete : (a : A) (front rest : Tokens) → g.spells a front → Ends g.follow_last rest → g.reader (front ++ rest) ≡ Some (a, rest)
   pub begun : (a : A) (front : Tokens) → g.spells a front → Begun g.firsts g.empty front
 
 -- another grammar is lawful, and where a rule looks ahead, what the first rule spells passes the test, and what passes it and is read by the
 -- second would be followed by one of the marks
-module _ {Part : Type 0} {Tree : Part → Type 0} (e : Edges Part) (R : (p : Part) → Rel (Tree p)) (inner here : (p : Part) → Parser (Tree p)) where
+module _ {Part : Type 0} {Tree : Part → Type 0} (e : FirstFollow Part) (R : (p : Part) → Rel (Tree p)) (inner here : (p : Part) → Parser (Tree p)) where
   abbrev pub Told : {A : Type 0} → Rule Tree A → Type 0
   Told (part p) = Unit {0}
   Told (inside p) = Unit {0}
@@ -184,11 +184,11 @@ module _ {Part : Type 0} {Tree : Part → Type 0} (e : Edges Part) (R : (p : Par
   Told (many r) = Told r
 
 -- the tests of a part
-pub record Fit {Part : Type 0} {Tree : Part → Type 0} (rule : (p : Part) → Rule Tree (Tree p)) (e : Edges Part) (p : Part) : Type 0 where
+pub record Fit {Part : Type 0} {Tree : Part → Type 0} (rule : (p : Part) → Rule Tree (Tree p)) (e : FirstFollow Part) (p : Part) : Type 0 where
   pub fits : fits e (rule p) ≡ true
   pub guarded : (e.behind p || guarded e (rule p)) ≡ true
   pub begun : nullable e (rule p) ≡ e.empty p
   pub firsts : included (starts e (rule p)) (e.firsts p) ≡ true
-  pub stops : included (stops e (rule p)) (e.goes_on p) ≡ true
+  pub stops : included (stops e (rule p)) (e.follow_last p) ≡ true
   pub ranked : ranked e.rank (e.rank p) (rule p) ≡ true
   pub told : (h d : ℕ) → Told e (Within rule h) (read_inside rule e d) (read_part rule e d) (rule p)

@@ -1,4 +1,3 @@
-pub mod Keywords
 pub mod Marks
 pub mod Parser
 pub mod Relations

@@ -1,5 +1,5 @@
 -- When each answer of a parser comes.
-use Rattle.std.specs.Prelude.{ℕ, Result, Ok, Err}
+use Rattle.std.specs.Prelude.{Result, Ok, Err}
 use Rattle.pl_grammar.specs.Marks.{Tokens}
 use Rattle.pl_grammar.specs.Relations.{Rel}
 use Rattle.pl_grammar.specs.Deep.{Deep, IsShallow}

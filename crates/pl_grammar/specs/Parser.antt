@@ -1,8 +1,8 @@
 -- Parsers as functions on lists of tokens.
-use Rattle.std.specs.Prelude.{◌≡◌, ℕ, zero, suc, Bool, true, false, ◌&&◌, if◌then◌else◌, List, [], ◌∷◌, ◌++◌, length, drop, Option, Some, None, Result, Ok, Err}
+use Rattle.std.specs.Prelude.{◌≡◌, ℕ, zero, suc, Bool, true, false, if◌then◌else◌, List, [], ◌∷◌, ◌++◌, length, drop, Option, Some, None, Result, Ok, Err}
 use Rattle.pl_lex.specs.declared.token.TokenKind.{TokenKind}
-use Rattle.pl_lex.specs.declared.token.TokenKind.TheVariants as kind
-use Rattle.pl_grammar.specs.Marks.{Tokens, Mark, marked, Sort, Carried, carried}
+use Rattle.pl_grammar.specs.Marks.{Tokens, Mark, Sort, Carried, carried, sees, after, begins, joined_by}
+use denote.Ref.{MutBor}
 use Rattle.pl_grammar.specs.declared.fail.Fail.{Fail}
 use Rattle.pl_grammar.specs.declared.fail.Fail.TheVariants.{Syntax}
 
@@ -30,13 +30,6 @@ abbrev pub head : Tokens → Option TokenKind
 head [] = None
 head (t ∷ ts) = Some t
 
-unfoldable pub sees : Mark → Tokens → Bool
-sees m [] = false
-sees m (t ∷ ts) = marked m t
-
-unfoldable pub after : Mark → Tokens → Tokens
-after m ts = if sees m ts then drop 1 ts else ts
-
 -- takes the mark, if it comes next, and tells whether it did
 abbrev pub eat : Mark → Parser Bool
 eat m = λ ts. Some (sees m ts, after m ts)
@@ -44,41 +37,12 @@ eat m = λ ts. Some (sees m ts, after m ts)
 unfoldable pub expect : Mark → Parser (Unit {0})
 expect m = λ ts. if sees m ts then Some (tt, drop 1 ts) else None
 
--- these marks come next
-unfoldable pub sees_two : Mark → Mark → Tokens → Bool
-sees_two m n (s ∷ t ∷ ts) = marked m s && marked n t
-sees_two m n _ = false
-
-unfoldable pub sees_three : Mark → Mark → Mark → Tokens → Bool
-sees_three m n o (s ∷ t ∷ u ∷ ts) = marked m s && marked n t && marked o u
-sees_three m n o _ = false
-
--- a word comes next, reserved or not
-unfoldable pub sees_any_word : Tokens → Bool
-sees_any_word (kind.Word n ∷ ts) = true
-sees_any_word (kind.Keyword n ∷ ts) = true
-sees_any_word _ = false
-
 -- takes a token of the sort
 unfoldable pub take : (s : Sort) → Parser (Carried s)
 take s [] = None
 take s (t ∷ ts) = with_rest (carried s t) ts
 
--- one of the marks comes next
-abbrev pub among : List Mark → TokenKind → Bool
-among [] t = false
-among (m ∷ ms) t = if marked m t then true else among ms t
-
-unfoldable pub begins : List Mark → Tokens → Bool
-begins ms [] = false
-begins ms (t ∷ ts) = among ms t
-
 -- ---- chains. Each turn takes a token, so their count is enough.
-
--- which mark joins, and what it stands for
-abbrev pub joined_by : {O : Type 0} → List (Mark × O) → TokenKind → Option O
-joined_by [] t = None
-joined_by (e ∷ es) t = if marked e.0 t then Some e.1 else joined_by es t
 
 unfoldable pub joins : {O : Type 0} → List (Mark × O) → Tokens → Option O
 joins table [] = None
@@ -98,6 +62,15 @@ module _ {O A B : Type 0} (table : List (Mark × O)) (item : Parser A) (make : O
   link_at None = pure None
   link_at (Some o) = λ ts. and_then (item (drop 1 ts)) (λ a. pure (Some (make o a)))
 
+-- one and then the other
+abbrev pub both : {A B : Type 0} → Parser A → Parser B → Parser (A × B)
+both p q = λ ts. and_then (p ts) (λ a ts. and_then (q ts) (λ b ts. Some ((a, b), ts)))
+
+-- an item, and any number of times the mark and an item
+abbrev pub listed : {A : Type 0} → Mark → Parser A → Parser (List A)
+listed {A} m item ts =
+    and_then (both item (λ ts. links_from {O = Unit {0}} ((m, tt) ∷ []) item (λ o a. a) (length ts) [] ts) ts) (λ p ts. Some (p.0 ∷ p.1, ts))
+
 module _ {A : Type 0} (marks : List Mark) (item : Parser A) where
   abbrev pub many_turn : (List A → Parser (List A)) → List A → Tokens → Bool → Outcome (List A)
   many_turn more found ts false = Some (found, ts)
@@ -112,6 +85,19 @@ module _ {A : Type 0} (marks : List Mark) (item : Parser A) where
 abbrev pub Reads : {A : Type 0} → Outcome A → Result A Fail → Tokens → Type 0
 Reads outcome (Ok a) new = outcome ≡ Some (a, new)
 Reads outcome (Err e) new = e ≡ Syntax → outcome ≡ None
+
+-- what a function ensures that reads all the tokens or refuses them, unless memory runs out
+abbrev pub ReadsAll : {A : Type 0} → Outcome A → Result A Fail → Type 0
+ReadsAll outcome (Ok a) = outcome ≡ Some (a, [])
+ReadsAll {A} outcome (Err e) = e ≡ Syntax → (a : A) → outcome ≡ Some (a, []) → ⊥
+
+-- a function value that parses may be called
+abbrev pub Callable : (MutBor Tokens → Type 0) → Type 0
+Callable pre = (at : MutBor Tokens) → pre at
+
+-- what is known of its calls makes it a function that reads so
+pub record ReadBy {A : Type 0} (parser : Parser A) (post : MutBor Tokens → Result A Fail → MutBor Tokens → Type 0) : Type 0 where
+  pub reads : (old new : MutBor Tokens) (r : Result A Fail) → post old r new → Reads (parser old.now) r new.now
 
 -- what a function ensures that makes something of what was read, or refuses it
 abbrev pub Makes : {A : Type 0} → Option A → Result A Fail → Type 0

@@ -1,8 +1,7 @@
 -- Which tokens spell a tree whose rule is made of smaller ones.
 use Rattle.std.specs.Prelude.{◌≡◌, Bool, true, false, List, [], ◌∷◌, ◌++◌, Option, Some, None}
 use Rattle.pl_lex.specs.declared.token.TokenKind.{TokenKind}
-use Rattle.pl_grammar.specs.Marks.{Tokens, Mark, marked, Sort, Carried, carried}
-use Rattle.pl_grammar.specs.Parser.{joined_by}
+use Rattle.pl_grammar.specs.Marks.{Tokens, Mark, marked, Sort, Carried, carried, joined_by}
 
 abbrev pub Rel : Type 0 → Type 1
 Rel A = A → Tokens → Type 0

@@ -1,7 +1,7 @@
 -- A grammar as a value: the rule of each of its parts, which tokens spell a tree by it, and how it is read.
-use Rattle.std.specs.Prelude.{◌≡◌, ℕ, zero, suc, ◌<◌, Bool, true, false, not, ◌&&◌, ◌||◌, nat_lt, if◌then◌else◌, List, [], ◌∷◌, ◌++◌, length, Option, Some, None}
-use Rattle.pl_grammar.specs.Marks.{Tokens, Mark, Sort, Carried, mark_of}
-use Rattle.pl_grammar.specs.Parser.{Parser, and_then, with_rest, pure, sees, after, eat, expect, take, begins, joins, links_from, link_at, many_from}
+use Rattle.std.specs.Prelude.{ℕ, zero, suc, Bool, true, false, ◌&&◌, ◌||◌, if◌then◌else◌, List, [], ◌∷◌, ◌++◌, length, Option, Some, None}
+use Rattle.pl_grammar.specs.Marks.{Tokens, Mark, Sort, Carried, mark_of, sees, after, begins}
+use Rattle.pl_grammar.specs.Parser.{Parser, and_then, with_rest, pure, eat, expect, take, joins, links_from, link_at, many_from}
 use Rattle.pl_grammar.specs.Relations.{Rel, One, Then, Before, Until, Made, Checked, Empty, Maybe, Fork, Either, Prefer, Links, Link, Many}
 
 -- what another grammar spells, how it is read, the marks that it may begin with, those that would go on with it, and whether no token may
@@ -10,7 +10,7 @@ pub record Given (A : Type 0) : Type 1 where
   pub spells : Rel A
   pub reader : Parser A
   pub firsts : List Mark
-  pub goes_on : List Mark
+  pub follow_last : List Mark
   pub empty : Bool
 
 infixr 11 ◌then◌
@@ -86,9 +86,9 @@ SpelledBy rule p a ts = (h : ℕ) × Within rule h p a ts
 
 -- of each part: the marks that it may begin with, those that would go on with it, a number above those of the parts in its rule,
 -- whether no token may spell it, and whether it stands behind a token of its own wherever it is named
-pub record Edges (Part : Type 0) : Type 0 where
+pub record FirstFollow (Part : Type 0) : Type 0 where
   pub firsts : Part → List Mark
-  pub goes_on : Part → List Mark
+  pub follow_last : Part → List Mark
   pub rank : Part → ℕ
   pub empty : Part → Bool
   pub behind : Part → Bool
@@ -97,7 +97,7 @@ abbrev pub words : {O : Type 0} → List (Mark × O) → List Mark
 words [] = []
 words (e ∷ es) = e.0 ∷ words es
 
-module _ {Part : Type 0} {Tree : Part → Type 0} (e : Edges Part) where
+module _ {Part : Type 0} {Tree : Part → Type 0} (e : FirstFollow Part) where
   -- it may be spelled by no token
   abbrev pub nullable : {A : Type 0} → Rule Tree A → Bool
   nullable (part p) = e.empty p
@@ -162,7 +162,7 @@ module _ {Part : Type 0} {Tree : Part → Type 0} (e : Edges Part) where
     read (many r) = λ ts. many_from (starts r) (read r) (length ts) [] ts
 
 -- with at most so many parts inside one another
-module _ {Part : Type 0} {Tree : Part → Type 0} (rule : (p : Part) → Rule Tree (Tree p)) (e : Edges Part) where
+module _ {Part : Type 0} {Tree : Part → Type 0} (rule : (p : Part) → Rule Tree (Tree p)) (e : FirstFollow Part) where
   abbrev pub read_below : ((p : Part) → Parser (Tree p)) → ℕ → (p : Part) → Parser (Tree p)
   read_below inner zero p = λ ts. None
   read_below inner (suc k) p = read e inner (read_below inner k) (rule p)

@@ -4,14 +4,14 @@
 
 mod depth;
 mod fail;
-mod keywords;
 mod lists;
+mod marks;
 #[cfg(test)]
 mod tests;
 mod tokens;
 
 pub use depth::{MAX_PARTS, deep};
 pub use fail::{Fail, ParseFail};
-pub use keywords::keyword_text;
-pub use lists::joined;
+pub use lists::{joined, links, list, many, whole};
+pub use marks::Mark;
 pub use tokens::Tokens;

@@ -1,37 +1,37 @@
 //! A cursor over tokens.
 
-ghost use Rattle.std.specs.Prelude.{◌≡◌, ◌≤◌, suc, [], ◌∷◌, length, drop, option_copied};
-ghost use Rattle.pl_grammar.specs.Keywords as keywords;
-ghost use Rattle.pl_grammar.specs.Marks as mark;
+ghost use Rattle.std.specs.Prelude.{◌≡◌, suc, [], ◌∷◌, length, drop, map, option_copied};
+ghost use Rattle.pl_lex.specs.Keywords as keywords;
+ghost use Rattle.pl_grammar.specs.Marks as spec;
 ghost use Rattle.pl_grammar.specs.Parser as parser;
 ghost use Rattle.pl_grammar.specs.Parser.{Reads};
 
-use crate::{Fail, keyword_text};
+use crate::{Fail, Mark};
 use pl_base::{Name, Txt};
-use pl_lex::{Keyword, Sign, Token, TokenKind};
+use pl_lex::{Keyword, Sign, Token, TokenKind, keyword_text};
 use std::alloc::Global;
 use std::marker::Model;
 
 fn same_keyword(a: Keyword, b: Keyword) -> bool
-    ensures { result ≡ mark.same_keyword a b }
+    ensures { result ≡ spec.same_keyword a b }
 {
     a == b
 }
 
 fn same_sign(a: Sign, b: Sign) -> bool
-    ensures { result ≡ mark.same_sign a b }
+    ensures { result ≡ spec.same_sign a b }
 {
     a == b
 }
 
 fn same_text(a: &[u8], b: &[u8]) -> bool
-    ensures { result ≡ mark.same_text a.now b.now }
+    ensures { result ≡ spec.same_text a.now b.now }
 {
     a == b
 }
 
 fn is_keyword(kind: &TokenKind, word: Keyword) -> bool
-    ensures { result ≡ mark.marked (mark.keyword word) kind.now }
+    ensures { result ≡ spec.marked (spec.keyword word) kind.now }
 {
     match kind {
         TokenKind::Keyword(found) => same_keyword(*found, word),
@@ -40,7 +40,7 @@ fn is_keyword(kind: &TokenKind, word: Keyword) -> bool
 }
 
 fn is_sign(kind: &TokenKind, sign: Sign) -> bool
-    ensures { result ≡ mark.marked (mark.sign sign) kind.now }
+    ensures { result ≡ spec.marked (spec.sign sign) kind.now }
 {
     match kind {
         TokenKind::Sign(found) => same_sign(*found, sign),
@@ -49,7 +49,7 @@ fn is_sign(kind: &TokenKind, sign: Sign) -> bool
 }
 
 fn is_word(kind: &TokenKind, word: &str) -> bool
-    ensures { result ≡ mark.marked (mark.word word.now) kind.now }
+    ensures { result ≡ spec.marked (spec.word word.now) kind.now }
 {
     match kind {
         TokenKind::Word(name) => same_text(name.as_bytes(), word.as_bytes()),
@@ -58,19 +58,19 @@ fn is_word(kind: &TokenKind, word: &str) -> bool
 }
 
 fn is_name(kind: &TokenKind) -> bool
-    ensures { result ≡ mark.marked mark.name kind.now }
+    ensures { result ≡ spec.marked spec.name kind.now }
 {
     matches!(kind, TokenKind::Word(_) | TokenKind::Quoted(_))
 }
 
 fn is_number(kind: &TokenKind) -> bool
-    ensures { result ≡ mark.marked mark.number kind.now }
+    ensures { result ≡ spec.marked spec.number kind.now }
 {
     matches!(kind, TokenKind::Number(_))
 }
 
 fn is_text(kind: &TokenKind) -> bool
-    ensures { result ≡ mark.marked mark.text kind.now }
+    ensures { result ≡ spec.marked spec.text kind.now }
 {
     matches!(
         kind,
@@ -79,9 +79,68 @@ fn is_text(kind: &TokenKind) -> bool
 }
 
 fn is_parameter(kind: &TokenKind) -> bool
-    ensures { result ≡ mark.marked mark.parameter kind.now }
+    ensures { result ≡ spec.marked spec.parameter kind.now }
 {
     matches!(kind, TokenKind::Parameter(_))
+}
+
+fn is_label(kind: &TokenKind) -> bool
+    ensures { result ≡ spec.marked spec.label kind.now }
+{
+    matches!(
+        kind,
+        TokenKind::Word(_) | TokenKind::Quoted(_) | TokenKind::Keyword(_)
+    )
+}
+
+fn is_marked(kind: &TokenKind, mark: Mark) -> bool
+    ensures { result ≡ spec.marked (spec.meant mark) kind.now }
+{
+    match mark {
+        Mark::Keyword(word) => is_keyword(kind, word),
+        Mark::Sign(sign) => is_sign(kind, sign),
+        Mark::Word(word) => is_word(kind, word),
+        Mark::Name => is_name(kind),
+        Mark::Number => is_number(kind),
+        Mark::Text => is_text(kind),
+        Mark::Parameter => is_parameter(kind),
+        Mark::Label => is_label(kind),
+    }
+}
+
+fn is_among(kind: &TokenKind, marks: &[Mark]) -> bool
+    ensures { result ≡ spec.among (map spec.meant marks.now) kind.now }
+{
+    for mark in marks {
+        if is_marked(kind, *mark) {
+            return true;
+        }
+    }
+    false
+}
+
+fn is(name: Name, word: &str) -> bool
+    ensures { result ≡ spec.same_text name word.now }
+{
+    same_text(name.as_bytes(), word.as_bytes())
+}
+
+// Whether a table may have this name without quotes.
+fn names_table(name: Name) -> bool
+    ensures { result ≡ spec.names_table name }
+{
+    !is(name, "only")
+}
+
+// Whether this word without quotes may be an alias or a label without AS.
+fn is_bare_alias(name: Name) -> bool
+    ensures { result ≡ spec.is_bare_alias name }
+{
+    !(is(name, "right")
+        || is(name, "full")
+        || is(name, "natural")
+        || is(name, "isnull")
+        || is(name, "notnull"))
 }
 
 // The reserved word as a name.
@@ -107,7 +166,7 @@ impl<'a> Model for Tokens<'a> {
 
 impl<'a> Tokens<'a> {
     pub fn new(rest: &'a [Token]) -> Tokens<'a>
-        ensures { result ≡ mark.kinds rest.now }
+        ensures { result ≡ spec.kinds rest.now }
     {
         Tokens { rest }
     }
@@ -144,88 +203,33 @@ impl<'a> Tokens<'a> {
         }
     }
 
-    /// Whether this reserved word comes next.
-    #[tactic(auto, unfolding(crate::specs::Parser::sees, crate::specs::Parser::begins))]
-    pub fn sees(&self, word: Keyword) -> bool
-        ensures seen { result ≡ parser.sees (mark.keyword word) self.now }
-        ensures begun { result ≡ parser.begins (mark.keyword word ∷ []) self.now }
+    /// Whether the next token is this.
+    #[tactic(auto, unfolding(crate::specs::Marks::sees, crate::specs::Marks::begins))]
+    pub fn sees(&self, mark: Mark) -> bool
+        ensures seen { result ≡ spec.sees (spec.meant mark) self.now }
+        ensures begun { result ≡ spec.begins (spec.meant mark ∷ []) self.now }
     {
         match self.peek() {
-            Some(kind) => is_keyword(kind, word),
+            Some(kind) => is_marked(kind, mark),
             None => false,
         }
     }
 
-    /// Whether this sign comes next.
-    #[tactic(auto, unfolding(crate::specs::Parser::sees))]
-    pub fn sees_sign(&self, sign: Sign) -> bool
-        ensures { result ≡ parser.sees (mark.sign sign) self.now }
+    /// Whether the next token is one of these.
+    #[tactic(auto, unfolding(crate::specs::Marks::begins))]
+    pub fn begins(&self, marks: &[Mark]) -> bool
+        ensures { result ≡ spec.begins (map spec.meant marks.now) self.now }
     {
         match self.peek() {
-            Some(kind) => is_sign(kind, sign),
-            None => false,
-        }
-    }
-
-    /// Whether this word, which is not reserved, comes next. The word is given in lower case.
-    #[tactic(auto, unfolding(crate::specs::Parser::sees))]
-    pub fn sees_word(&self, word: &str) -> bool
-        ensures { result ≡ parser.sees (mark.word word.now) self.now }
-    {
-        match self.peek() {
-            Some(kind) => is_word(kind, word),
-            None => false,
-        }
-    }
-
-    /// Whether a name comes next.
-    #[tactic(auto, unfolding(crate::specs::Parser::begins))]
-    pub fn sees_name(&self) -> bool
-        ensures { result ≡ parser.begins (mark.name ∷ []) self.now }
-    {
-        match self.peek() {
-            Some(kind) => is_name(kind),
-            None => false,
-        }
-    }
-
-    /// Whether a number comes next.
-    #[tactic(auto, unfolding(crate::specs::Parser::begins))]
-    pub fn sees_number(&self) -> bool
-        ensures { result ≡ parser.begins (mark.number ∷ []) self.now }
-    {
-        match self.peek() {
-            Some(kind) => is_number(kind),
-            None => false,
-        }
-    }
-
-    /// Whether a text comes next.
-    #[tactic(auto, unfolding(crate::specs::Parser::begins))]
-    pub fn sees_text(&self) -> bool
-        ensures { result ≡ parser.begins (mark.text ∷ []) self.now }
-    {
-        match self.peek() {
-            Some(kind) => is_text(kind),
-            None => false,
-        }
-    }
-
-    /// Whether a parameter comes next.
-    #[tactic(auto, unfolding(crate::specs::Parser::begins))]
-    pub fn sees_parameter(&self) -> bool
-        ensures { result ≡ parser.begins (mark.parameter ∷ []) self.now }
-    {
-        match self.peek() {
-            Some(kind) => is_parameter(kind),
+            Some(kind) => is_among(kind, marks),
             None => false,
         }
     }
 
     /// Whether a word comes next, reserved or not.
-    #[tactic(auto, unfolding(crate::specs::Parser::sees_any_word))]
+    #[tactic(auto, unfolding(crate::specs::Marks::sees_any_word))]
     pub fn sees_any_word(&self) -> bool
-        ensures { result ≡ parser.sees_any_word self.now }
+        ensures { result ≡ spec.sees_any_word self.now }
     {
         match self.peek() {
             Some(TokenKind::Word(_)) => true,
@@ -234,134 +238,49 @@ impl<'a> Tokens<'a> {
         }
     }
 
-    /// Whether this word comes next, and then this sign.
-    #[tactic(auto, unfolding(crate::specs::Parser::sees_two))]
-    pub fn sees_word_before(&self, word: &str, sign: Sign) -> bool
-        ensures { result ≡ parser.sees_two (mark.word word.now) (mark.sign sign) self.now }
+    /// Whether the next two tokens are these.
+    #[tactic(auto, unfolding(crate::specs::Marks::sees_two))]
+    pub fn sees_two(&self, first: Mark, second: Mark) -> bool
+        ensures { result ≡ spec.sees_two (spec.meant first) (spec.meant second) self.now }
     {
         if self.rest.len() < 2 {
             return false;
         }
-        is_word(&self.rest[0].kind, word) && is_sign(&self.rest[1].kind, sign)
+        is_marked(&self.rest[0].kind, first) && is_marked(&self.rest[1].kind, second)
     }
 
-    /// Whether a name comes next, and then these two signs.
-    #[tactic(auto, unfolding(crate::specs::Parser::sees_three))]
-    pub fn sees_name_before(&self, first: Sign, second: Sign) -> bool
-        ensures { result ≡ parser.sees_three mark.name (mark.sign first) (mark.sign second) self.now }
+    /// Whether the next three tokens are these.
+    #[tactic(auto, unfolding(crate::specs::Marks::sees_three))]
+    pub fn sees_three(&self, first: Mark, second: Mark, third: Mark) -> bool
+        ensures { result ≡ spec.sees_three (spec.meant first) (spec.meant second) (spec.meant third) self.now }
     {
         if self.rest.len() < 3 {
             return false;
         }
-        is_name(&self.rest[0].kind)
-            && is_sign(&self.rest[1].kind, first)
-            && is_sign(&self.rest[2].kind, second)
+        is_marked(&self.rest[0].kind, first)
+            && is_marked(&self.rest[1].kind, second)
+            && is_marked(&self.rest[2].kind, third)
     }
 
-    /// Whether this word comes next, and then a name.
-    #[tactic(auto, unfolding(crate::specs::Parser::sees_two))]
-    pub fn sees_word_before_name(&self, word: &str) -> bool
-        ensures { result ≡ parser.sees_two (mark.word word.now) mark.name self.now }
+    /// Takes the next token, if it is this.
+    #[tactic(auto, unfolding(crate::specs::Marks::after))]
+    pub fn eat(&mut self, mark: Mark) -> bool
+        ensures result { result ≡ spec.sees (spec.meant mark) self.old }
+        ensures new { self.new ≡ spec.after (spec.meant mark) self.old }
     {
-        if self.rest.len() < 2 {
-            return false;
-        }
-        is_word(&self.rest[0].kind, word) && is_name(&self.rest[1].kind)
-    }
-
-    /// Whether two names come next.
-    #[tactic(auto, unfolding(crate::specs::Parser::sees_two))]
-    pub fn sees_two_names(&self) -> bool
-        ensures { result ≡ parser.sees_two mark.name mark.name self.now }
-    {
-        if self.rest.len() < 2 {
-            return false;
-        }
-        is_name(&self.rest[0].kind) && is_name(&self.rest[1].kind)
-    }
-
-    /// Whether two names come next with this word between them.
-    #[tactic(auto, unfolding(crate::specs::Parser::sees_three))]
-    pub fn sees_word_between_names(&self, word: &str) -> bool
-        ensures { result ≡ parser.sees_three mark.name (mark.word word.now) mark.name self.now }
-    {
-        if self.rest.len() < 3 {
-            return false;
-        }
-        is_name(&self.rest[0].kind)
-            && is_word(&self.rest[1].kind, word)
-            && is_name(&self.rest[2].kind)
-    }
-
-    /// Takes this reserved word, if it comes next.
-    #[tactic(auto, unfolding(crate::specs::Parser::after))]
-    pub fn eat(&mut self, word: Keyword) -> bool
-        ensures result { result ≡ parser.sees (mark.keyword word) self.old }
-        ensures new { self.new ≡ parser.after (mark.keyword word) self.old }
-    {
-        let seen = self.sees(word);
+        let seen = self.sees(mark);
         if seen {
             self.skip();
         }
         seen
     }
 
-    /// Takes this sign, if it comes next.
-    #[tactic(auto, unfolding(crate::specs::Parser::after))]
-    pub fn eat_sign(&mut self, sign: Sign) -> bool
-        ensures result { result ≡ parser.sees (mark.sign sign) self.old }
-        ensures new { self.new ≡ parser.after (mark.sign sign) self.old }
-    {
-        let seen = self.sees_sign(sign);
-        if seen {
-            self.skip();
-        }
-        seen
-    }
-
-    /// Takes this word, if it comes next.
-    #[tactic(auto, unfolding(crate::specs::Parser::after))]
-    pub fn eat_word(&mut self, word: &str) -> bool
-        ensures result { result ≡ parser.sees (mark.word word.now) self.old }
-        ensures new { self.new ≡ parser.after (mark.word word.now) self.old }
-    {
-        let seen = self.sees_word(word);
-        if seen {
-            self.skip();
-        }
-        seen
-    }
-
-    /// Takes this reserved word, which must come next.
+    /// Takes the next token, which must be this.
     #[tactic(auto, unfolding(crate::specs::Parser::expect))]
-    pub fn expect(&mut self, word: Keyword) -> Result<(), Fail>
-        ensures { Reads (parser.expect (mark.keyword word) self.old) result self.new }
+    pub fn expect(&mut self, mark: Mark) -> Result<(), Fail>
+        ensures { Reads (parser.expect (spec.meant mark) self.old) result self.new }
     {
-        if !self.sees(word) {
-            return Err(Fail::Syntax);
-        }
-        self.skip();
-        Ok(())
-    }
-
-    /// Takes this sign, which must come next.
-    #[tactic(auto, unfolding(crate::specs::Parser::expect))]
-    pub fn expect_sign(&mut self, sign: Sign) -> Result<(), Fail>
-        ensures { Reads (parser.expect (mark.sign sign) self.old) result self.new }
-    {
-        if !self.sees_sign(sign) {
-            return Err(Fail::Syntax);
-        }
-        self.skip();
-        Ok(())
-    }
-
-    /// Takes this word, which must come next.
-    #[tactic(auto, unfolding(crate::specs::Parser::expect))]
-    pub fn expect_word(&mut self, word: &str) -> Result<(), Fail>
-        ensures { Reads (parser.expect (mark.word word.now) self.old) result self.new }
-    {
-        if !self.sees_word(word) {
+        if !self.sees(mark) {
             return Err(Fail::Syntax);
         }
         self.skip();
@@ -371,7 +290,7 @@ impl<'a> Tokens<'a> {
     /// Takes a name.
     #[tactic(auto, unfolding(crate::specs::Parser::take))]
     pub fn name(&mut self) -> Result<Name, Fail>
-        ensures { Reads (parser.take mark.a_name self.old) result self.new }
+        ensures { Reads (parser.take spec.a_name self.old) result self.new }
     {
         let name = match self.peek() {
             Some(TokenKind::Word(name)) => *name,
@@ -382,10 +301,62 @@ impl<'a> Tokens<'a> {
         Ok(name)
     }
 
+    /// Takes a name: whether it stands in quotes, and it.
+    #[tactic(auto, unfolding(crate::specs::Parser::take))]
+    pub fn written_name(&mut self) -> Result<(bool, Name), Fail>
+        ensures { Reads (parser.take spec.a_written_name self.old) result self.new }
+    {
+        let name = match self.peek() {
+            Some(TokenKind::Word(name)) => (false, *name),
+            Some(TokenKind::Quoted(name)) => (true, *name),
+            _ => return Err(Fail::Syntax),
+        };
+        self.skip();
+        Ok(name)
+    }
+
+    /// Takes the name of a table, which is not ONLY without quotes.
+    #[tactic(auto, unfolding(crate::specs::Parser::take))]
+    pub fn table_name(&mut self) -> Result<Name, Fail>
+        ensures { Reads (parser.take spec.a_table_name self.old) result self.new }
+    {
+        let name = match self.peek() {
+            Some(TokenKind::Word(name)) => {
+                if !names_table(*name) {
+                    return Err(Fail::Syntax);
+                }
+                *name
+            }
+            Some(TokenKind::Quoted(name)) => *name,
+            _ => return Err(Fail::Syntax),
+        };
+        self.skip();
+        Ok(name)
+    }
+
+    /// Takes an alias or a label that stands without AS.
+    #[tactic(auto, unfolding(crate::specs::Parser::take))]
+    pub fn bare_alias(&mut self) -> Result<Name, Fail>
+        ensures { Reads (parser.take spec.a_bare_alias self.old) result self.new }
+    {
+        let name = match self.peek() {
+            Some(TokenKind::Word(name)) => {
+                if !is_bare_alias(*name) {
+                    return Err(Fail::Syntax);
+                }
+                *name
+            }
+            Some(TokenKind::Quoted(name)) => *name,
+            _ => return Err(Fail::Syntax),
+        };
+        self.skip();
+        Ok(name)
+    }
+
     /// Takes a name, or a reserved word in its place.
     #[tactic(auto, unfolding(crate::specs::Parser::take))]
     pub fn label(&mut self) -> Result<Name, Fail>
-        ensures { Reads (parser.take mark.a_label self.old) result self.new }
+        ensures { Reads (parser.take spec.a_label self.old) result self.new }
     {
         let name = match self.peek() {
             Some(TokenKind::Word(name)) => *name,
@@ -400,7 +371,7 @@ impl<'a> Tokens<'a> {
     /// Takes a number.
     #[tactic(auto, unfolding(crate::specs::Parser::take))]
     pub fn number(&mut self) -> Result<u64, Fail>
-        ensures { Reads (parser.take mark.a_number self.old) result self.new }
+        ensures { Reads (parser.take spec.a_number self.old) result self.new }
     {
         let number = match self.peek() {
             Some(TokenKind::Number(number)) => *number,
@@ -413,7 +384,7 @@ impl<'a> Tokens<'a> {
     /// Takes a parameter: its number.
     #[tactic(auto, unfolding(crate::specs::Parser::take))]
     pub fn parameter(&mut self) -> Result<u16, Fail>
-        ensures { Reads (parser.take mark.a_parameter self.old) result self.new }
+        ensures { Reads (parser.take spec.a_parameter self.old) result self.new }
     {
         let number = match self.peek() {
             Some(TokenKind::Parameter(number)) => *number,
@@ -426,7 +397,7 @@ impl<'a> Tokens<'a> {
     /// Takes a text, however it is written: a copy of it.
     #[tactic(auto, unfolding(crate::specs::Parser::take))]
     pub fn text(&mut self, alloc: Global) -> Result<Txt, Fail>
-        ensures { Reads (parser.take mark.a_text self.old) result self.new }
+        ensures { Reads (parser.take spec.a_text self.old) result self.new }
     {
         let text = match self.peek() {
             Some(TokenKind::Text(text)) => text.copy(alloc)?,

@@ -9,6 +9,7 @@ use crate::script_commands::SCRIPTS;
 use crate::sources::{SCRIPT_SOURCES, SOURCE_SCRIPT, SOURCES};
 use crate::tests::{Refusal, is, is_entry, nested};
 use crate::words::Words;
+use pl_copies::Copied;
 use pl_grammar::ParseFail;
 use pl_lex::{cut, lex};
 use pl_sql_parse::parse_command;

@@ -88,6 +88,21 @@ UPDATE t SET
 UPDATE t SET a
 UPDATE t SET a =
 UPDATE t SET a 1
+UPDATE only SET a = 1
+UPDATE only t SET a = 1
+UPDATE only AS t SET a = 1
+UPDATE t right SET a = 1
+UPDATE t full SET a = 1
+UPDATE t natural SET a = 1
+UPDATE t isnull SET a = 1
+UPDATE t notnull SET a = 1
+DELETE FROM only
+DELETE FROM only t
+DELETE FROM t right
+DELETE FROM t natural WHERE a
+INSERT INTO only VALUES (1)
+INSERT INTO only AS t VALUES (1)
+INSERT INTO t VALUES (1) RETURNING a isnull
 UPDATE t SET a := 1
 UPDATE t SET a == 1
 UPDATE t SET = 1

@@ -9,6 +9,7 @@ use crate::queries::QUERIES;
 use crate::refusals::{NO_EXPRESSIONS, NO_QUERIES};
 use crate::scripts::{SCRIPT_EXPRESSIONS, SCRIPT_QUERIES};
 use crate::words::Words;
+use pl_copies::Copied;
 use pl_expr_parse::{parse_expr, parse_query};
 use pl_grammar::ParseFail;
 use pl_lex::lex;

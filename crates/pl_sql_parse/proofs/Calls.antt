@@ -8,7 +8,7 @@ use Rattle.pl_grammar.specs.Words.{OPEN}
 use Rattle.pl_expr_parse.specs.Grammar as x
 use Rattle.pl_expr_parse.specs.Finished.{reads_front}
 use Rattle.pl_sql_parse.specs.Grammar.{Call, Name}
-use Rattle.pl_sql_parse.specs.Edges.{reads_part}
+use Rattle.pl_sql_parse.specs.FirstFollow.{reads_part}
 use Rattle.pl_sql_parse.specs.Trees.{call_of}
 use Rattle.pl_sql_parse.proofs.Step.{step}
 

@@ -4,7 +4,7 @@ use Rattle.pl_grammar.specs.Marks.{same_keyword, same_sign}
 use Rattle.pl_grammar.specs.Fit.{fits, guarded, included, stops, ranked}
 use Rattle.pl_grammar.specs.Rule.{nullable, starts}
 use Rattle.pl_sql_parse.specs.Grammar.{Part, Command, Transaction, Work, Rollback, SavepointName, Do, Call, Insert, InsertAlias, Columns, Names, BracketedNames, NewRows, NewRow, NewValue, Returning, Update, FirstColumn, Assignment, Condition, Delete, Definition, Create, NewTable, IfNotExists, Element, TableRule, ForeignKey, BracketedExpression, Column, ColumnRules, ColumnRule, ColumnRuleKind, Referenced, NewRoutine, OrReplace, Signature, Params, Param, WayParam, NamedType, Returned, Result, ResultColumns, ResultColumn, Clauses, Clause, LanguageName, NewTrigger, Timing, Events, Event, Executed, Drop, DropRoutine, Dropped, IfExists, Types, rule}
-use Rattle.pl_sql_parse.specs.Edges.{edges, firsts, goes_on, rank, empty, behind}
+use Rattle.pl_sql_parse.specs.FirstFollow.{first_follow, firsts, follow_last, rank, empty, behind}
 
 pub all_ranked : (p : Part) → ranked rank (rank p) (rule p) ≡ true
 all_ranked Command = refl
@@ -66,7 +66,7 @@ all_ranked Dropped = refl
 all_ranked IfExists = refl
 all_ranked Types = refl
 
-pub all_fit : (p : Part) → fits edges (rule p) ≡ true
+pub all_fit : (p : Part) → fits first_follow (rule p) ≡ true
 unfolding same_keyword same_sign
 all_fit Command = refl
 all_fit Transaction = refl
@@ -127,7 +127,7 @@ all_fit Dropped = refl
 all_fit IfExists = refl
 all_fit Types = refl
 
-pub all_guarded : (p : Part) → (behind p || guarded edges (rule p)) ≡ true
+pub all_guarded : (p : Part) → (behind p || guarded first_follow (rule p)) ≡ true
 all_guarded Command = refl
 all_guarded Transaction = refl
 all_guarded Work = refl
@@ -187,7 +187,7 @@ all_guarded Dropped = refl
 all_guarded IfExists = refl
 all_guarded Types = refl
 
-pub all_begun : (p : Part) → nullable edges (rule p) ≡ empty p
+pub all_begun : (p : Part) → nullable first_follow (rule p) ≡ empty p
 all_begun Command = refl
 all_begun Transaction = refl
 all_begun Work = refl
@@ -247,7 +247,7 @@ all_begun Dropped = refl
 all_begun IfExists = refl
 all_begun Types = refl
 
-pub all_firsts : (p : Part) → included (starts edges (rule p)) (firsts p) ≡ true
+pub all_firsts : (p : Part) → included (starts first_follow (rule p)) (firsts p) ≡ true
 unfolding same_keyword same_sign
 all_firsts Command = refl
 all_firsts Transaction = refl
@@ -308,7 +308,7 @@ all_firsts Dropped = refl
 all_firsts IfExists = refl
 all_firsts Types = refl
 
-pub all_stops : (p : Part) → included (stops edges (rule p)) (goes_on p) ≡ true
+pub all_stops : (p : Part) → included (stops first_follow (rule p)) (follow_last p) ≡ true
 unfolding same_keyword same_sign
 all_stops Command = refl
 all_stops Transaction = refl

@@ -1,8 +1,8 @@
 -- A grammar in which no part stands inside another is read alike at every depth.
 use Rattle.std.proofs.Common.{◌≡◌, ℕ, zero, suc, Bool, true, false, ◌&&◌, if◌then◌else◌, List, [], length, refl, ap, ap₂, ◌∙◌, Option, Some}
-use Rattle.pl_grammar.specs.Marks.{Tokens}
-use Rattle.pl_grammar.specs.Parser.{Parser, and_then, with_rest, sees, after, expect, begins, joins, links_from, link_at, many_from}
-use Rattle.pl_grammar.specs.Rule.{Rule, part, inside, given, one, nothing, maybe, ◌before◌, ◌until◌, ◌then◌, make, check, fork, ◌or◌, ahead, prefer, links, link, many, Edges, starts, read, read_below, read_inside, read_part}
+use Rattle.pl_grammar.specs.Marks.{Tokens, sees, after, begins}
+use Rattle.pl_grammar.specs.Parser.{Parser, and_then, with_rest, expect, joins, links_from, link_at, many_from}
+use Rattle.pl_grammar.specs.Rule.{Rule, part, inside, given, one, nothing, maybe, ◌before◌, ◌until◌, ◌then◌, make, check, fork, ◌or◌, ahead, prefer, links, link, many, FirstFollow, starts, read, read_below, read_inside, read_part}
 use Rattle.pl_grammar.proofs.Plain.{split}
 use Rattle.pl_grammar.proofs.Same.{inside_is}
 
@@ -28,7 +28,7 @@ module _ {Part : Type 0} {Tree : Part → Type 0} where
   flat (link table r f) = flat r
   flat (many r) = flat r
 
-module _ {Part : Type 0} {Tree : Part → Type 0} (e : Edges Part) (inner inner' here here' : (p : Part) → Parser (Tree p)) (same : (p : Part) → here p ≡ here' p) where
+module _ {Part : Type 0} {Tree : Part → Type 0} (e : FirstFollow Part) (inner inner' here here' : (p : Part) → Parser (Tree p)) (same : (p : Part) → here p ≡ here' p) where
   flat_same : {A : Type 0} (r : Rule Tree A) → flat r ≡ true → read e inner here r ≡ read e inner' here' r
   flat_same (part p) h = same p
   flat_same (inside p) h = absurd (cc)
@@ -59,7 +59,7 @@ module _ {Part : Type 0} {Tree : Part → Type 0} (e : Edges Part) (inner inner'
   flat_same (link {A = A} {B = B} table r f) h = ap {B = Parser (Option B)} (λ (p : Parser A) ts. link_at table p f (joins table ts) ts) (flat_same r h)
   flat_same (many {A = A} r) h = ap {B = Parser (List A)} (λ (p : Parser A) ts. many_from (starts e r) p (length ts) [] ts) (flat_same r h)
 
-module _ {Part : Type 0} {Tree : Part → Type 0} (rule : (p : Part) → Rule Tree (Tree p)) (e : Edges Part) (all_flat : (p : Part) → flat (rule p) ≡ true) where
+module _ {Part : Type 0} {Tree : Part → Type 0} (rule : (p : Part) → Rule Tree (Tree p)) (e : FirstFollow Part) (all_flat : (p : Part) → flat (rule p) ≡ true) where
   below_flat : (inner inner' : (p : Part) → Parser (Tree p)) (k : ℕ) (p : Part) → read_below rule e inner k p ≡ read_below rule e inner' k p
   below_flat inner inner' zero p = refl
   below_flat inner inner' (suc k) p = flat_same e inner inner' (read_below rule e inner k) (read_below rule e inner' k) (below_flat inner inner' k) (rule p) (all_flat p)

@@ -10,3 +10,4 @@ pub mod OneCommand
 pub mod Results
 pub mod Procedures
 pub mod LeftOut
+pub mod Lent

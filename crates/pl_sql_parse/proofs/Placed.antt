@@ -3,7 +3,8 @@ use Rattle.std.proofs.Common.{◌≡◌, ◌∙◌, ap, sym, ℕ, ◌-◌, ◌�
 use Rattle.pl_lex.specs.Characters.{Text}
 use Rattle.pl_lex.specs.Lexemes.{StandIn}
 use Rattle.pl_lex.specs.declared.token.Token.{Token}
-use Rattle.pl_sql_parse.specs.Spells.{end_of, source_of}
+use Rattle.pl_sql_parse.specs.Spells.{Placed}
+use Rattle.pl_lex.specs.Slices.{end_of, slice_of}
 
 last_end : (t : Token) (ts : List Token) (e : Token) → (slice_index_or (t ∷ ts) (length ts) e).end ≡ end_of t.end ts
 last_end t [] e = refl
@@ -22,9 +23,9 @@ ends text at end (t ∷ ts) h =
 pub record Span (text : Text) (start end : ℕ) (ts : List Token) : Type 0 where
   pub low : start ≤ end
   pub high : end ≤ length text
-  pub is : source_of text ts ≡ take (end - start) (drop start text)
+  pub is : slice_of text ts ≡ take (end - start) (drop start text)
 
-pub span : (text : Text) (ts : List Token) (d e : Token) → (length ts == 0) ≡ false → ((from : ℕ) × (end : ℕ) × (end ≤ length text) × StandIn text from end ts)
+pub span : (text : Text) (ts : List Token) (d e : Token) → (length ts == 0) ≡ false → Placed text ts
     → Span text (slice_index_or ts 0 d).start (slice_index_or ts (length ts - 1) e).end ts
 span text [] d e some h = absurd (cc)
 span text (t ∷ ts) d e some h =

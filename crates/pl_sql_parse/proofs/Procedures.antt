@@ -4,13 +4,13 @@ use Rattle.pl_tree.specs.declared.command.Definition.{Definition as Definition_}
 use Rattle.pl_tree.specs.declared.command.Param.{Param as Param_}
 use Rattle.pl_tree.specs.declared.command.RoutineKind.TheVariants as kind
 use Rattle.pl_tree.specs.declared.command.ResultType.TheVariants as returns
-use Rattle.pl_grammar.specs.Marks.{Tokens}
+use Rattle.pl_grammar.specs.Marks.{Tokens, sees, after}
 use Rattle.pl_grammar.specs.declared.fail.Fail.{Fail}
-use Rattle.pl_grammar.specs.Parser.{Outcome, Parser, Reads, Makes, and_then, with_rest, sees, after, expect}
+use Rattle.pl_grammar.specs.Parser.{Outcome, Parser, Reads, Makes, and_then, with_rest, expect}
 use Rattle.pl_grammar.specs.Rule.{part, make, ◌then◌}
 use Rattle.pl_sql_parse.specs.declared.parts.Clause.{Clause as Clause_}
 use Rattle.pl_sql_parse.specs.Grammar.{NewRoutine, OrReplace, Signature, Returned, Clauses, Name, Routine, function_of, procedure_of}
-use Rattle.pl_sql_parse.specs.Edges.{reads, reads_part}
+use Rattle.pl_sql_parse.specs.FirstFollow.{reads, reads_part}
 use Rattle.pl_sql_parse.specs.Trees.{routine_of}
 use Rattle.pl_sql_parse.specs.Words.{FUNCTION, PROCEDURE}
 use Rattle.pl_sql_parse.proofs.Step.{step}

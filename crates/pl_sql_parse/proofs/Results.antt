@@ -3,14 +3,14 @@ use Rattle.std.proofs.Common.{◌≡◌, ◌∙◌, ap, Bool, true, false, if◌
 use Rattle.pl_base.specs.declared.types.Ty.{Ty}
 use Rattle.pl_tree.specs.declared.command.ResultType.{ResultType}
 use Rattle.pl_tree.specs.declared.command.ResultType.TheVariants as returns
-use Rattle.pl_grammar.specs.Marks.{Tokens}
-use Rattle.pl_grammar.specs.Parser.{Outcome, Parser, and_then, sees, after, expect}
+use Rattle.pl_grammar.specs.Marks.{Tokens, sees, after}
+use Rattle.pl_grammar.specs.Parser.{Outcome, Parser, and_then, expect}
 use Rattle.pl_grammar.specs.Rule.{part, make, ◌then◌}
 use Rattle.pl_expr_parse.specs.Grammar as x
 use Rattle.pl_expr_parse.specs.Finished.{reads_front}
 use Rattle.pl_sql_parse.specs.declared.parts.Clause.{Clause as Clause_}
 use Rattle.pl_sql_parse.specs.Grammar.{Returned, Result, ResultColumns, Clauses, is_set}
-use Rattle.pl_sql_parse.specs.Edges.{reads, reads_part}
+use Rattle.pl_sql_parse.specs.FirstFollow.{reads, reads_part}
 use Rattle.pl_sql_parse.specs.Words.{RETURNS, SETOF, TABLE}
 use Rattle.pl_sql_parse.proofs.Step.{step}
 

@@ -9,7 +9,7 @@ use Rattle.pl_grammar.proofs.Theorem as whole
 use Rattle.pl_grammar.proofs.Tools.{Gives}
 use Rattle.pl_grammar.specs.Fit.{Begun}
 use Rattle.pl_sql_parse.specs.Grammar.{Part, Command, Transaction, Work, Rollback, SavepointName, Do, Call, Insert, InsertAlias, Columns, Names, BracketedNames, NewRows, NewRow, NewValue, Returning, Update, FirstColumn, Assignment, Condition, Delete, Definition, Create, NewTable, IfNotExists, Element, TableRule, ForeignKey, BracketedExpression, Column, ColumnRules, ColumnRule, ColumnRuleKind, Referenced, NewRoutine, OrReplace, Signature, Params, Param, WayParam, NamedType, Returned, Result, ResultColumns, ResultColumn, Clauses, Clause, LanguageName, NewTrigger, Timing, Events, Event, Executed, Drop, DropRoutine, Dropped, IfExists, Types, Tree, rule}
-use Rattle.pl_sql_parse.specs.Edges.{edges, firsts, empty, reads_part}
+use Rattle.pl_sql_parse.specs.FirstFollow.{first_follow, firsts, empty, reads_part}
 use Rattle.pl_sql_parse.proofs.Fits.{all_ranked}
 use Rattle.pl_sql_parse.proofs.Flat.{flat, any_depth}
 use Rattle.pl_sql_parse.proofs.Told.{fit}
@@ -74,25 +74,25 @@ all_flat Dropped = refl
 all_flat IfExists = refl
 all_flat Types = refl
 
-at_depth : (d : ℕ) (p : Part) (ts : Tokens) → read_inside rule edges (suc d) p ts ≡ reads_part p ts
+at_depth : (d : ℕ) (p : Part) (ts : Tokens) → read_inside rule first_follow (suc d) p ts ≡ reads_part p ts
 unfolding reads_part
-at_depth d p ts = any_depth rule edges all_flat d p ts
+at_depth d p ts = any_depth rule first_follow all_flat d p ts
 
 below : (ts : Tokens) → length ts < suc (length ts)
 below ts = omega arith
 
 pub read_spells : (p : Part) (ts rest : Tokens) (a : Tree p) → Gives (reads_part p ts) a rest → length rest ≡ 0 → SpelledBy rule p a ts
-read_spells p ts rest a h none = whole.read_spells rule edges fit (reads_is rule edges all_ranked) (sound_inside rule edges fit) (suc (length ts)) p ts rest a (at_depth (length ts) p ts ∙ h) none
+read_spells p ts rest a h none = whole.read_spells rule first_follow fit (reads_is rule first_follow all_ranked) (sound_inside rule first_follow fit) (suc (length ts)) p ts rest a (at_depth (length ts) p ts ∙ h) none
 
 pub one_tree : (p : Part) (ts rest : Tokens) (a other : Tree p) → Gives (reads_part p ts) a rest → SpelledBy rule p other ts → other ≡ a
-one_tree p ts rest a other h k = whole.one_tree rule edges fit (reads_is rule edges all_ranked) (sound_inside rule edges fit) (suc (length ts)) p refl ts rest a other (below ts) (at_depth (length ts) p ts ∙ h) k
+one_tree p ts rest a other h k = whole.one_tree rule first_follow fit (reads_is rule first_follow all_ranked) (sound_inside rule first_follow fit) (suc (length ts)) p refl ts rest a other (below ts) (at_depth (length ts) p ts ∙ h) k
 
 pub unread : (p : Part) (ts : Tokens) → reads_part p ts ≡ None → (a : Tree p) → SpelledBy rule p a ts → ⊥
-unread p ts h a k = whole.unread rule edges fit (reads_is rule edges all_ranked) (sound_inside rule edges fit) (suc (length ts)) p refl ts (below ts) (at_depth (length ts) p ts ∙ h) a k
+unread p ts h a k = whole.unread rule first_follow fit (reads_is rule first_follow all_ranked) (sound_inside rule first_follow fit) (suc (length ts)) p refl ts (below ts) (at_depth (length ts) p ts ∙ h) a k
 
 pub not_whole : (p : Part) (ts rest : Tokens) (a : Tree p) → Gives (reads_part p ts) a rest → (length rest ≡ 0 → ⊥) → (other : Tree p) → SpelledBy rule p other ts → ⊥
-not_whole p ts rest a h more other k = whole.not_whole rule edges fit (reads_is rule edges all_ranked) (sound_inside rule edges fit) (suc (length ts)) p refl ts rest a (below ts) (at_depth (length ts) p ts ∙ h) more other k
+not_whole p ts rest a h more other k = whole.not_whole rule first_follow fit (reads_is rule first_follow all_ranked) (sound_inside rule first_follow fit) (suc (length ts)) p refl ts rest a (below ts) (at_depth (length ts) p ts ∙ h) more other k
 
 -- how what spells it begins
 pub begins_so : (p : Part) (ts : Tokens) (a : Tree p) → SpelledBy rule p a ts → Begun (firsts p) (empty p) ts
-begins_so p ts a h = part_begun rule edges fit h.0 p a ts h.1
+begins_so p ts a h = part_begun rule first_follow fit h.0 p a ts h.1

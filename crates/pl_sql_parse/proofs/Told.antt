@@ -3,8 +3,8 @@ use Rattle.std.proofs.Common.{◌≡◌, ℕ, zero, suc, Bool, true, false, ◌&
 use Rattle.pl_lex.specs.declared.token.TokenKind.{TokenKind}
 use Rattle.pl_lex.specs.declared.token.TokenKind.TheVariants as kind
 use Rattle.pl_base.specs.declared.types.Ty.{Ty}
-use Rattle.pl_grammar.specs.Marks.{Tokens, Mark, name, a_name, carried, marked}
-use Rattle.pl_grammar.specs.Parser.{Parser, and_then, among, expect, take, sees_two, sees_three}
+use Rattle.pl_grammar.specs.Marks.{Tokens, Mark, name, a_name, carried, marked, among, sees_two, sees_three, a_bare_alias, a_written_name}
+use Rattle.pl_grammar.specs.Parser.{Parser, and_then, expect, take}
 use Rattle.pl_grammar.specs.Relations.{Rel, both, behind_mark, before_mark, made, carries, with_mark, without, first, second}
 use Rattle.pl_grammar.specs.Rule.{one, make, ◌before◌, ◌until◌, ◌then◌, part, Spelled, SpelledBy, Within, read_inside, read_part}
 use Rattle.pl_grammar.specs.Fit.{Told, Ends, Fit}
@@ -21,7 +21,7 @@ use Rattle.pl_sql_parse.specs.declared.parts.Clause.{Clause as Clause_}
 use Rattle.pl_sql_parse.specs.Trees.{param_of}
 use Rattle.pl_sql_parse.specs.Words.{SET, SETOF, SAVEPOINT, OUT, INOUT}
 use Rattle.pl_sql_parse.specs.Grammar.{Part, Command, Transaction, Work, Rollback, SavepointName, Do, Call, Insert, InsertAlias, Columns, Names, BracketedNames, NewRows, NewRow, NewValue, Returning, Update, FirstColumn, Assignment, Condition, Delete, Definition, Create, NewTable, IfNotExists, Element, TableRule, ForeignKey, BracketedExpression, Column, ColumnRules, ColumnRule, ColumnRuleKind, Referenced, NewRoutine, OrReplace, Signature, Params, Param, WayParam, NamedType, Returned, Result, ResultColumns, ResultColumn, Clauses, Clause, LanguageName, NewTrigger, Timing, Events, Event, Executed, Drop, DropRoutine, Dropped, IfExists, Types, Tree, Name, rule, R, type, has_alias, names_savepoint, is_named, has_way, is_set}
-use Rattle.pl_sql_parse.specs.Edges.{edges}
+use Rattle.pl_sql_parse.specs.FirstFollow.{first_follow}
 use Rattle.pl_sql_parse.proofs.Fits.{all_fit, all_guarded, all_begun, all_firsts, all_stops, all_ranked}
 
 -- ---- names
@@ -30,6 +30,16 @@ name_marked : (t : TokenKind) (n : List ℕ) → carried a_name t ≡ Some n →
 name_marked (kind.Word m) n h = refl
 name_marked (kind.Quoted m) n h = refl
 name_marked t n h = absurd (cc)
+
+bare_marked : (t : TokenKind) (n : List ℕ) → carried a_bare_alias t ≡ Some n → marked name t ≡ true
+bare_marked (kind.Word m) n h = refl
+bare_marked (kind.Quoted m) n h = refl
+bare_marked t n h = absurd (cc)
+
+written_marked : (t : TokenKind) (n : Bool × List ℕ) → carried a_written_name t ≡ Some n → marked name t ≡ true
+written_marked (kind.Word m) n h = refl
+written_marked (kind.Quoted m) n h = refl
+written_marked t n h = absurd (cc)
 
 both_hold : {a b : Bool} → a ≡ true → b ≡ true → (a && b) ≡ true
 both_hold {a} {b} h k = ap (λ (x : Bool). x && b) h ∙ k
@@ -45,7 +55,7 @@ taken t ts a rest h = (rest_some (carried a_name t) a ts rest h).1
 -- a type is one name
 one_name : (h : ℕ) (a : Ty) (xs : Tokens) → Within x.rule h x.TypeName a xs → (t : TokenKind) × (xs ≡ t ∷ []) × (marked name t ≡ true)
 one_name zero a xs d = absurd d
-one_name (suc h) a xs (made (carries {a = n} {t = t} e)) = (t, refl, name_marked t n e)
+one_name (suc h) a xs (made (carries {a = n} {t = t} e)) = (t, refl, written_marked t n e)
 
 -- ---- two tokens ahead
 
@@ -83,7 +93,7 @@ savepoint_alone ts rest a h k end = one_alone SAVEPOINT ts rest a h k end
 -- ---- an alias before SET
 
 abbrev aliased : R (Option Name × Name)
-aliased = make (λ p. (Some p.0, p.1)) ((one a_name until SET) then one a_name)
+aliased = make (λ p. (Some p.0, p.1)) ((one a_bare_alias until SET) then one a_name)
 
 abbrev bare : R (Option Name × Name)
 bare = SET before make (λ n. (None, n)) (one a_name)
@@ -91,7 +101,7 @@ bare = SET before make (λ n. (None, n)) (one a_name)
 module _ (S : (p : Part) → Rel (Tree p)) where
   alias_passes : (a : Option Name × Name) (front rest : Tokens) → Spelled S aliased a front → has_alias (front ++ rest) ≡ true
   unfolding sees_three
-  alias_passes a front rest (made (both (before_mark t (carries {t = v} e) h) (carries {t = u} k))) = both_hold (both_hold (name_marked v _ e) h) (name_marked u _ k)
+  alias_passes a front rest (made (both (before_mark t (carries {t = v} e) h) (carries {t = u} k))) = both_hold (both_hold (bare_marked v _ e) h) (name_marked u _ k)
 
 abbrev read_bare : Parser (Option Name × Name)
 read_bare = λ ts. and_then (expect SET ts) (λ _ ts. and_then (take a_name ts) (λ n ts. Some ((None, n), ts)))
@@ -215,10 +225,10 @@ module _ (S : (p : Part) → Rel (Tree p)) where
 
 -- ---- the grammar
 
-abbrev plainly : (h d : ℕ) {A : Type 0} (r : R A) → plain r ≡ true → Told edges (Within rule h) (read_inside rule edges d) (read_part rule edges d) r
-plainly h d r p = plain_told edges (Within rule h) (read_inside rule edges d) (read_part rule edges d) r p
+abbrev plainly : (h d : ℕ) {A : Type 0} (r : R A) → plain r ≡ true → Told first_follow (Within rule h) (read_inside rule first_follow d) (read_part rule first_follow d) r
+plainly h d r p = plain_told first_follow (Within rule h) (read_inside rule first_follow d) (read_part rule first_follow d) r p
 
-pub all_told : (p : Part) (h d : ℕ) → Told edges (Within rule h) (read_inside rule edges d) (read_part rule edges d) (rule p)
+pub all_told : (p : Part) (h d : ℕ) → Told first_follow (Within rule h) (read_inside rule first_follow d) (read_part rule first_follow d) (rule p)
 all_told Command h d = (tt, (tt, (tt, (tt, (tt, (lawful x.Query, tt))))))
 all_told Transaction h d = plainly h d (rule Transaction) refl
 all_told Work h d = plainly h d (rule Work) refl
@@ -278,5 +288,5 @@ all_told Dropped h d = plainly h d (rule Dropped) refl
 all_told IfExists h d = plainly h d (rule IfExists) refl
 all_told Types h d = ((tt, (lawful x.TypeName, lawful x.TypeName)), tt)
 
-pub fit : (p : Part) → Fit rule edges p
+pub fit : (p : Part) → Fit rule first_follow p
 fit p = record { fits = all_fit p; guarded = all_guarded p; begun = all_begun p; firsts = all_firsts p; stops = all_stops p; ranked = all_ranked p; told = λ h d. all_told p h d }

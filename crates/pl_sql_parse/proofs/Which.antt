@@ -1,11 +1,9 @@
 -- The first token tells whether a command is a definition.
-use Rattle.std.proofs.Common.{◌≡◌, ◌∙◌, sym, ap, subst, refl, Bool, true, false, ◌||◌, if◌then◌else◌, List, [], ◌∷◌, Result, Ok, Err, IfOk}
-use Rattle.pl_grammar.specs.declared.fail.Fail.{Fail}
+use Rattle.std.proofs.Common.{◌≡◌, ◌∙◌, sym, refl, Bool, true, false, ◌||◌, if◌then◌else◌, List, [], ◌∷◌}
 use Rattle.pl_lex.specs.Characters.{Text}
 use Rattle.pl_lex.specs.declared.token.Token.{Token}
 use Rattle.pl_lex.specs.declared.token.TokenKind.{TokenKind}
-use Rattle.pl_grammar.specs.Marks.{Tokens, Mark, kinds, marked, same_keyword, same_sign}
-use Rattle.pl_grammar.specs.Parser.{sees, among}
+use Rattle.pl_grammar.specs.Marks.{Tokens, Mark, kinds, marked, same_keyword, same_sign, sees, among}
 use Rattle.pl_grammar.specs.Rule.{SpelledBy}
 use Rattle.pl_grammar.specs.Fit.{clear, Begun}
 use Rattle.pl_grammar.proofs.Sets.{clear_off}
@@ -13,8 +11,9 @@ use Rattle.pl_tree.specs.declared.command.Command.{Command as CommandTree}
 use Rattle.pl_tree.specs.declared.command.Command.TheVariants as c
 use Rattle.pl_tree.specs.declared.command.Definition.{Definition as DefinitionTree}
 use Rattle.pl_sql_parse.specs.Grammar.{Command, Definition, rule}
-use Rattle.pl_sql_parse.specs.Edges.{firsts}
-use Rattle.pl_sql_parse.specs.Spells.{SpellsCommand, command, definition, source_of, begins_definition}
+use Rattle.pl_sql_parse.specs.FirstFollow.{firsts}
+use Rattle.pl_sql_parse.specs.Spells.{SpellsCommand, command, definition, begins_definition}
+use Rattle.pl_lex.specs.Slices.{slice_of}
 use Rattle.pl_sql_parse.specs.Words.{CREATE, DROP}
 use Rattle.pl_sql_parse.proofs.Theorem.{begins_so}
 
@@ -51,29 +50,8 @@ no_definition text x ts none_begins (definition {x = d} s) = let one_begins = de
 pub record Defines (text : Text) (x : CommandTree) (ts : List Token) : Type 0 where
   pub tree : DefinitionTree
   pub spells : SpelledBy rule Definition tree (kinds ts)
-  pub is : x ≡ c.Define tree (source_of text ts)
+  pub is : x ≡ c.Define tree (slice_of text ts)
 
 pub a_definition : (text : Text) (x : CommandTree) (ts : List Token) → begins_definition (kinds ts) ≡ true → SpellsCommand text x ts → Defines text x ts
 a_definition text x ts one_begins (command d) = absurd (command_begins (kinds ts) (begins_so Command (kinds ts) x d) one_begins)
 a_definition text x ts one_begins (definition {x = d} s) = record { tree = d; spells = s; is = refl }
-
-pub one_definition : (text : Text) (x : CommandTree) (ts : List Token) (d : DefinitionTree) → begins_definition (kinds ts) ≡ true → ((other : DefinitionTree) → SpelledBy rule Definition other (kinds ts) → other ≡ d) → SpellsCommand text x ts
-    → x ≡ c.Define d (source_of text ts)
-one_definition text x ts d one_begins only s = let e = a_definition text x ts one_begins s in e.is ∙ ap (λ (d : DefinitionTree). c.Define d (source_of text ts)) (only e.tree e.spells)
-
-pub no_tree : (text : Text) (x : CommandTree) (ts : List Token) → begins_definition (kinds ts) ≡ true → ((other : DefinitionTree) → SpelledBy rule Definition other (kinds ts) → ⊥) → SpellsCommand text x ts → ⊥
-no_tree text x ts one_begins none s = let e = a_definition text x ts one_begins s in none e.tree e.spells
-
--- ---- what is said of the two kinds is said of commands
-
-pub found_command : (text : Text) (ts : List Token) (r : Result CommandTree Fail) → IfOk r (λ x. SpelledBy rule Command x (kinds ts)) → IfOk r (λ x. SpellsCommand text x ts)
-found_command text ts (Ok x) h = command h
-found_command text ts (Err e) h = h
-
-pub only_command : (text : Text) (ts : List Token) → begins_definition (kinds ts) ≡ false → (r : Result CommandTree Fail) → IfOk r (λ x. (other : CommandTree) → SpelledBy rule Command other (kinds ts) → other ≡ x)
-    → IfOk r (λ x. (other : CommandTree) → SpellsCommand text other ts → other ≡ x)
-only_command text ts none_begins (Ok x) h = λ other s. h other (no_definition text other ts none_begins s)
-only_command text ts none_begins (Err e) h = h
-
-pub found_definition : (text : Text) (ts : List Token) (d : DefinitionTree) (source : Text) → SpelledBy rule Definition d (kinds ts) → source ≡ source_of text ts → SpellsCommand text (c.Define d source) ts
-found_definition text ts d source s is = subst (λ (source : Text). SpellsCommand text (c.Define d source) ts) (sym is) (definition s)

@@ -32,8 +32,7 @@ use Rattle.pl_tree.specs.declared.command.Timing.{Timing as Timing_}
 use Rattle.pl_tree.specs.declared.command.Timing.TheVariants as timing
 use Rattle.pl_tree.specs.declared.command.TriggerEvent.{TriggerEvent}
 use Rattle.pl_tree.specs.declared.command.TriggerEvent.TheVariants as event
-use Rattle.pl_grammar.specs.Marks.{Tokens, name, a_name, a_text}
-use Rattle.pl_grammar.specs.Parser.{sees_two, sees_three}
+use Rattle.pl_grammar.specs.Marks.{Tokens, name, a_name, a_text, a_table_name, a_bare_alias, sees_two, sees_three}
 use Rattle.pl_grammar.specs.Rule.{Rule, part, given, one, nothing, maybe, ◌before◌, ◌until◌, ◌then◌, make, check, fork, ◌or◌, ahead, prefer, links, many}
 use Rattle.pl_grammar.specs.Forms.{alone, by, optional, list_of, in_brackets}
 use Rattle.pl_grammar.specs.Words.{AS, END, EXISTS, FROM, IN, NOT, NULL, ON, OR, ROW, WHERE, OPEN, CLOSE, COMMA, EQUAL}
@@ -109,8 +108,14 @@ Name = List ℕ
 
 -- what each is read as
 abbrev pub Tree : Part → Type 0
+Tree Command = Command_
+Tree Transaction = Command_
 Tree Work = Unit {0}
+Tree Rollback = Command_
 Tree SavepointName = Name
+Tree Do = Command_
+Tree Call = Command_
+Tree Insert = Command_
 Tree InsertAlias = Option Name
 Tree Columns = List Name
 Tree Names = List Name
@@ -119,9 +124,11 @@ Tree NewRows = NewRows_
 Tree NewRow = NewRow_
 Tree NewValue = NewValue_
 Tree Returning = List Item
+Tree Update = Command_
 Tree FirstColumn = Option Name × Name
 Tree Assignment = Assignment_
 Tree Condition = Option Expr
+Tree Delete = Command_
 Tree Definition = Definition_
 Tree Create = Definition_
 Tree NewTable = Definition_
@@ -159,7 +166,6 @@ Tree DropRoutine = Definition_
 Tree Dropped = Bool × Name × Option (List Ty)
 Tree IfExists = Bool
 Tree Types = Option (List Ty)
-Tree _ = Command_
 
 abbrev pub R : Type 0 → Type 1
 R A = Rule Tree A
@@ -220,6 +226,28 @@ has_way ts = sees_two OUT name ts || sees_two INOUT name ts
 abbrev pub is_set : Tokens → Bool
 is_set = sees_two SETOF name
 
+-- ---- what stands in a rule
+
+-- ROLLBACK, ABORT, SAVEPOINT, RELEASE
+abbrev pub undoing : R Command_
+undoing =
+    fork ROLLBACK (part Rollback)
+    (fork ABORT (make (λ w. c.Rollback) (part Work))
+    (fork SAVEPOINT (make c.Savepoint (one a_name))
+    (RELEASE before make c.Release (part SavepointName))))
+
+-- = value {, name = value}
+abbrev pub assigned : R (NewValue_ × List Assignment_)
+assigned = EQUAL before part NewValue then links (by COMMA) (part Assignment) alone
+
+-- CHECK (e) | UNIQUE | PRIMARY KEY | REFERENCES name [(name)]
+abbrev pub other_rule_kind : R ColumnRuleKind_
+other_rule_kind =
+    fork CHECK (make asks.Check (part BracketedExpression))
+    (fork UNIQUE (nothing asks.Unique)
+    (fork PRIMARY (KEY before nothing asks.PrimaryKey)
+    (REFERENCES before part Referenced)))
+
 -- ---- the grammar
 
 abbrev pub rule : (p : Part) → R (Tree p)
@@ -235,11 +263,7 @@ rule Transaction =
     fork BEGIN (make (λ w. c.Begin) (part Work))
     (fork START (TRANSACTION before nothing c.StartTransaction)
     (fork COMMIT (make (λ w. c.Commit) (part Work))
-    (fork END (make (λ w. c.Commit) (part Work))
-    (fork ROLLBACK (part Rollback)
-    (fork ABORT (make (λ w. c.Rollback) (part Work))
-    (fork SAVEPOINT (make c.Savepoint (one a_name))
-    (RELEASE before make c.Release (part SavepointName))))))))
+    (fork END (make (λ w. c.Commit) (part Work)) undoing)))
 -- [WORK | TRANSACTION]
 rule Work = fork WORK (nothing tt) (make (λ w. tt) (maybe TRANSACTION))
 -- [work] [TO savepoint]
@@ -256,7 +280,7 @@ rule Call = check (λ p. call_of p.0 p.1) (one a_name then OPEN before arguments
 -- INTO name [AS name] [(names)] rows [RETURNING items]
 rule Insert =
     make (λ p. insert_of p.0 p.1.0 p.1.1.0 p.1.1.1.0 p.1.1.1.1)
-    (INTO before one a_name then part InsertAlias then part Columns then part NewRows then part Returning)
+    (INTO before one a_table_name then part InsertAlias then part Columns then part NewRows then part Returning)
 rule InsertAlias = optional AS (one a_name)
 -- [(names)]
 rule Columns = fork OPEN (part Names until CLOSE) (nothing [])
@@ -272,23 +296,23 @@ rule NewValue = fork DEFAULT (nothing value.Default) (make value.Value expressio
 rule Returning = fork RETURNING items (nothing [])
 -- name [[AS] name] SET name = value {, name = value} [WHERE e] [RETURNING items]
 rule Update =
-    make (λ p. update_of p.0 p.1.0.0 p.1.0.1 p.1.1.0 p.1.1.1.0 p.1.1.1.1.0 p.1.1.1.1.1)
-    (one a_name then part FirstColumn then EQUAL before part NewValue then links (by COMMA) (part Assignment) alone then part Condition then part Returning)
+    make (λ p. update_of p.0 p.1.0.0 p.1.0.1 p.1.1.0.0 p.1.1.0.1 p.1.1.1.0 p.1.1.1.1)
+    (one a_table_name then part FirstColumn then assigned then part Condition then part Returning)
 -- [[AS] name] SET name
 rule FirstColumn =
     fork AS (make (λ p. (Some p.0, p.1)) ((one a_name until SET) then one a_name))
-    (ahead has_alias (name ∷ []) (make (λ p. (Some p.0, p.1)) ((one a_name until SET) then one a_name)) (SET before make (λ n. (None, n)) (one a_name)))
+    (ahead has_alias (name ∷ []) (make (λ p. (Some p.0, p.1)) ((one a_bare_alias until SET) then one a_name)) (SET before make (λ n. (None, n)) (one a_name)))
 rule Assignment = make (λ p. assignment_of p.0 p.1) (one a_name then EQUAL before part NewValue)
 -- [WHERE e]
 rule Condition = optional WHERE expression
 -- FROM name [[AS] name] [WHERE e] [RETURNING items]
-rule Delete = make (λ p. delete_of p.0 p.1.0 p.1.1.0 p.1.1.1) (FROM before one a_name then alias then part Condition then part Returning)
+rule Delete = make (λ p. delete_of p.0 p.1.0 p.1.1.0 p.1.1.1) (FROM before one a_table_name then alias then part Condition then part Returning)
 -- ---- definitions
 rule Definition = fork CREATE (part Create) (DROP before part Drop)
 rule Create = fork TABLE (part NewTable) (fork TRIGGER (part NewTrigger) (part NewRoutine))
 -- ---- tables
 -- [IF NOT EXISTS] name (element {, element})
-rule NewTable = make (λ p. new_table_of p.0 p.1.0 p.1.1) (part IfNotExists then one a_name then in_brackets (list_of (part Element)))
+rule NewTable = make (λ p. new_table_of p.0 p.1.0 p.1.1) (part IfNotExists then one a_table_name then in_brackets (list_of (part Element)))
 rule IfNotExists = fork IF (NOT before EXISTS before nothing true) (nothing false)
 -- a column, or [CONSTRAINT name] rule
 rule Element =
@@ -300,7 +324,7 @@ rule TableRule =
     (fork PRIMARY (KEY before make table_rule.PrimaryKey (part BracketedNames))
     (FOREIGN before KEY before part ForeignKey)))
 -- (names) REFERENCES name [(names)]
-rule ForeignKey = make (λ p. foreign_key_of p.0 p.1.0 p.1.1) (part BracketedNames then REFERENCES before one a_name then part Columns)
+rule ForeignKey = make (λ p. foreign_key_of p.0 p.1.0 p.1.1) (part BracketedNames then REFERENCES before one a_table_name then part Columns)
 -- (e)
 rule BracketedExpression = in_brackets expression
 -- name type {rule}
@@ -313,13 +337,9 @@ rule ColumnRule =
 rule ColumnRuleKind =
     fork NOT (NULL before nothing asks.NotNull)
     (fork NULL (nothing asks.Null)
-    (fork DEFAULT (make asks.Default operand)
-    (fork CHECK (make asks.Check (part BracketedExpression))
-    (fork UNIQUE (nothing asks.Unique)
-    (fork PRIMARY (KEY before nothing asks.PrimaryKey)
-    (REFERENCES before part Referenced))))))
+    (fork DEFAULT (make asks.Default operand) other_rule_kind))
 -- name [(name)]
-rule Referenced = make (λ p. asks.References p.0 p.1) (one a_name then optional OPEN (one a_name until CLOSE))
+rule Referenced = make (λ p. asks.References p.0 p.1) (one a_table_name then optional OPEN (one a_name until CLOSE))
 -- ---- routines
 -- [OR REPLACE] FUNCTION signature [RETURNS result] {clause} | [OR REPLACE] PROCEDURE signature {clause}
 rule NewRoutine =
@@ -363,7 +383,7 @@ rule LanguageName = one a_name or one a_text
 -- name (BEFORE | AFTER) event {OR event} ON name FOR [EACH] ROW EXECUTE routine
 rule NewTrigger =
     make (λ p. trigger_of p.0 p.1.0 p.1.1.0 p.1.1.1.0 p.1.1.1.1.1)
-    (one a_name then part Timing then part Events then ON before one a_name then FOR before maybe EACH then ROW before EXECUTE before part Executed)
+    (one a_name then part Timing then part Events then ON before one a_table_name then FOR before maybe EACH then ROW before EXECUTE before part Executed)
 rule Timing = fork BEFORE (nothing timing.Before) (AFTER before nothing timing.After)
 rule Events = make (λ p. p.0 ∷ p.1) (part Event then links (by OR) (part Event) alone)
 rule Event = fork INSERT (nothing event.Insert) (fork UPDATE (nothing event.Update) (DELETE before nothing event.Delete))
@@ -371,8 +391,8 @@ rule Event = fork INSERT (nothing event.Insert) (fork UPDATE (nothing event.Upda
 rule Executed = fork FUNCTION (one a_name until OPEN until CLOSE) (PROCEDURE before one a_name until OPEN until CLOSE)
 -- ---- drops
 rule Drop =
-    fork TABLE (make (λ p. d.DropTable p.0 p.1.0) (part IfExists then one a_name then maybe RESTRICT))
-    (fork TRIGGER (make (λ p. d.DropTrigger p.0 p.1.0 p.1.1.0) (part IfExists then one a_name then ON before one a_name then maybe RESTRICT))
+    fork TABLE (make (λ p. d.DropTable p.0 p.1.0) (part IfExists then one a_table_name then maybe RESTRICT))
+    (fork TRIGGER (make (λ p. d.DropTrigger p.0 p.1.0 p.1.1.0) (part IfExists then one a_name then ON before one a_table_name then maybe RESTRICT))
     (part DropRoutine))
 rule DropRoutine =
     fork FUNCTION (make (λ p. drop_routine_of kind.Function p.0 p.1 p.2) (part Dropped))

@@ -1,8 +1,7 @@
 -- The commands that are left out, as their first words tell.
 use Rattle.std.specs.Prelude.{ℕ, Bool, ◌&&◌, ◌||◌, not, List, [], ◌∷◌, codes}
 use Rattle.std.specs.List.{list_any}
-use Rattle.pl_grammar.specs.Marks.{Tokens, Mark, word}
-use Rattle.pl_grammar.specs.Parser.{sees, after, begins, sees_any_word}
+use Rattle.pl_grammar.specs.Marks.{Tokens, Mark, word, sees, after, begins, sees_any_word}
 use Rattle.pl_grammar.specs.Words.{OR}
 use Rattle.pl_sql_parse.specs.Words.{CREATE, DECLARE, DROP, EXECUTE, TABLE, FUNCTION, PROCEDURE, TRIGGER, VALUES, WITH}
 

@@ -1,7 +1,7 @@
 pub mod Words
 pub mod Trees
 pub mod Grammar
-pub mod Edges
+pub mod FirstFollow
 pub mod LeftOut
 pub mod Spells
-pub mod Reading
+pub mod Computed

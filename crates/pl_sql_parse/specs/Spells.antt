@@ -1,12 +1,13 @@
 -- Which tokens of a text spell a command.
-use Rattle.std.specs.Prelude.{◌≡◌, ◌-◌, ◌||◌, ℕ, Bool, true, false, List, [], ◌∷◌, drop, take, Result, Ok, Err}
+use Rattle.std.specs.Prelude.{◌≡◌, ◌≤◌, ◌||◌, ℕ, length, Bool, true, false, List, Result, Ok, Err}
 use Rattle.pl_lex.specs.Characters.{Text}
+use Rattle.pl_lex.specs.Slices.{slice_of}
+use Rattle.pl_lex.specs.Lexemes.{StandIn}
 use Rattle.pl_lex.specs.declared.token.Token.{Token}
 use Rattle.pl_tree.specs.declared.command.Command.{Command}
 use Rattle.pl_tree.specs.declared.command.Command.TheVariants as c
 use Rattle.pl_tree.specs.declared.command.Definition.{Definition}
-use Rattle.pl_grammar.specs.Marks.{Tokens, kinds}
-use Rattle.pl_grammar.specs.Parser.{sees}
+use Rattle.pl_grammar.specs.Marks.{Tokens, kinds, sees}
 use Rattle.pl_grammar.specs.Rule.{SpelledBy}
 use Rattle.pl_grammar.specs.Deep.{Deep, IsShallow}
 use Rattle.pl_grammar.specs.declared.fail.ParseFail.{ParseFail}
@@ -19,20 +20,14 @@ use Rattle.pl_sql_parse.specs.Words.{CREATE, DROP}
 abbrev pub begins_definition : Tokens → Bool
 begins_definition ts = sees CREATE ts || sees DROP ts
 
--- the byte behind the last of these tokens
-abbrev pub end_of : ℕ → List Token → ℕ
-end_of at [] = at
-end_of at (t ∷ ts) = end_of t.end ts
-
--- a command's text, from the first byte of its first token to the last byte of its last
-abbrev pub source_of : Text → List Token → Text
-source_of text [] = []
-source_of text (t ∷ ts) = take (end_of t.end ts - t.start) (drop t.start text)
+-- the tokens stand in the text, in order
+abbrev pub Placed : Text → List Token → Type 0
+Placed text ts = (from : ℕ) × (end : ℕ) × (end ≤ length text) × StandIn text from end ts
 
 -- the tokens spell the command; a definition has its text too
 pub data SpellsCommand (text : Text) : Command → List Token → Type 0 where
   command : {x : Command} {ts : List Token} → SpelledBy rule ACommand x (kinds ts) → SpellsCommand text x ts
-  definition : {x : Definition} {ts : List Token} → SpelledBy rule ADefinition x (kinds ts) → SpellsCommand text (c.Define x (source_of text ts)) ts
+  definition : {x : Definition} {ts : List Token} → SpelledBy rule ADefinition x (kinds ts) → SpellsCommand text (c.Define x (slice_of text ts)) ts
 
 abbrev pub NoneSpells : Text → List Token → Type 0
 NoneSpells text ts = (x : Command) → SpellsCommand text x ts → ⊥

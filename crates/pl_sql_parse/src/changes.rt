@@ -1,44 +1,30 @@
 //! Rows that are written: PostgreSQL manual, "INSERT", "UPDATE" and "DELETE".
 
-ghost use Rattle.std.specs.Prelude.{[], ◌∷◌, ◌≡◌, length};
-ghost use Rattle.pl_grammar.specs.Parser.{Reads, links_from, many_from, take, begins};
-ghost use Rattle.pl_grammar.specs.Marks.{a_name};
+ghost use Rattle.std.specs.Prelude.{[], length};
 ghost use Rattle.pl_grammar.specs.Forms.{alone, by};
+ghost use Rattle.pl_grammar.specs.Parser.{Reads, links_from, listed};
 ghost use Rattle.pl_grammar.specs.Words as w;
-ghost use Rattle.pl_expr_parse.specs.Grammar as x;
-ghost use Rattle.pl_expr_parse.specs.Finished.{reads_front};
 ghost use Rattle.pl_sql_parse.specs.Grammar as spec;
-ghost use Rattle.pl_sql_parse.specs.Edges.{reads_part, firsts};
+ghost use Rattle.pl_sql_parse.specs.FirstFollow.{reads, reads_part};
 
-use pl_base::{Boxed, List, Name};
+use pl_base::{Boxed, Held, List, Name};
 use pl_expr_parse::{read_alias, read_expression, read_items, read_query};
-use pl_grammar::{Fail, Tokens, joined};
-use pl_lex::{Keyword, Sign as Mark};
+use pl_grammar::{Fail, Mark, Tokens, joined, links, list};
+use pl_lex::{Keyword, Sign};
 use pl_tree::{Assignment, Command, Delete, Expr, Insert, Item, NewRow, NewRows, NewValue, Update};
 use std::alloc::Global;
-
-// {, name}
-fn more_names(alloc: Global, tokens: &mut Tokens<'_>) -> Result<List<Name>, Fail>
-    ensures { Reads (links_from (by w.COMMA) (take a_name) alone (length tokens.old) [] tokens.old) result tokens.new }
-{
-    let mut found = List::new(alloc);
-    for _turn in 0..tokens.left() {
-        if !tokens.eat_sign(Mark::Comma) {
-            return Ok(found);
-        }
-        found.push(tokens.name()?)?;
-    }
-    Ok(found)
-}
 
 // name {, name}
 #[tactic(auto, using(crate::proofs::Step::gives))]
 pub(crate) fn names(alloc: Global, tokens: &mut Tokens<'_>) -> Result<List<Name>, Fail>
     ensures { Reads (reads_part spec.Names tokens.old) result tokens.new }
 {
-    let first = tokens.name()?;
-    let more = more_names(alloc, tokens)?;
-    Ok(joined(alloc, first, more)?)
+    list(
+        alloc,
+        tokens,
+        Mark::Sign(Sign::Comma),
+        |tokens| tokens.name(),
+    )
 }
 
 // (names)
@@ -46,9 +32,9 @@ pub(crate) fn names(alloc: Global, tokens: &mut Tokens<'_>) -> Result<List<Name>
 pub(crate) fn bracketed_names(alloc: Global, tokens: &mut Tokens<'_>) -> Result<List<Name>, Fail>
     ensures { Reads (reads_part spec.BracketedNames tokens.old) result tokens.new }
 {
-    tokens.expect_sign(Mark::Open)?;
+    tokens.expect(Mark::Sign(Sign::Open))?;
     let names = names(alloc, tokens)?;
-    tokens.expect_sign(Mark::Close)?;
+    tokens.expect(Mark::Sign(Sign::Close))?;
     Ok(names)
 }
 
@@ -57,11 +43,11 @@ pub(crate) fn bracketed_names(alloc: Global, tokens: &mut Tokens<'_>) -> Result<
 pub(crate) fn columns(alloc: Global, tokens: &mut Tokens<'_>) -> Result<List<Name>, Fail>
     ensures { Reads (reads_part spec.Columns tokens.old) result tokens.new }
 {
-    if !tokens.eat_sign(Mark::Open) {
+    if !tokens.eat(Mark::Sign(Sign::Open)) {
         return Ok(List::new(alloc));
     }
     let names = names(alloc, tokens)?;
-    tokens.expect_sign(Mark::Close)?;
+    tokens.expect(Mark::Sign(Sign::Close))?;
     Ok(names)
 }
 
@@ -70,24 +56,22 @@ pub(crate) fn columns(alloc: Global, tokens: &mut Tokens<'_>) -> Result<List<Nam
 pub(crate) fn new_value(alloc: Global, tokens: &mut Tokens<'_>) -> Result<NewValue, Fail>
     ensures { Reads (reads_part spec.NewValue tokens.old) result tokens.new }
 {
-    if tokens.eat(Keyword::Default) {
+    if tokens.eat(Mark::Keyword(Keyword::Default)) {
         return Ok(NewValue::Default);
     }
     Ok(NewValue::Value(read_expression(alloc, tokens)?))
 }
 
-// {, value}
-fn more_values(alloc: Global, tokens: &mut Tokens<'_>) -> Result<List<NewValue>, Fail>
-    ensures { Reads (links_from (by w.COMMA) (reads_part spec.NewValue) alone (length tokens.old) [] tokens.old) result tokens.new }
+// value {, value}
+fn new_values(alloc: Global, tokens: &mut Tokens<'_>) -> Result<List<NewValue>, Fail>
+    ensures { Reads (listed w.COMMA (reads_part spec.NewValue) tokens.old) result tokens.new }
 {
-    let mut found = List::new(alloc);
-    for _turn in 0..tokens.left() {
-        if !tokens.eat_sign(Mark::Comma) {
-            return Ok(found);
-        }
-        found.push(new_value(alloc, tokens)?)?;
-    }
-    Ok(found)
+    list(
+        alloc,
+        tokens,
+        Mark::Sign(Sign::Comma),
+        |tokens| new_value(alloc, tokens),
+    )
 }
 
 // (value {, value})
@@ -95,26 +79,22 @@ fn more_values(alloc: Global, tokens: &mut Tokens<'_>) -> Result<List<NewValue>,
 pub(crate) fn new_row(alloc: Global, tokens: &mut Tokens<'_>) -> Result<NewRow, Fail>
     ensures { Reads (reads_part spec.NewRow tokens.old) result tokens.new }
 {
-    tokens.expect_sign(Mark::Open)?;
-    let first = new_value(alloc, tokens)?;
-    let more = more_values(alloc, tokens)?;
-    let values = joined(alloc, first, more)?;
-    tokens.expect_sign(Mark::Close)?;
+    tokens.expect(Mark::Sign(Sign::Open))?;
+    let values = new_values(alloc, tokens)?;
+    tokens.expect(Mark::Sign(Sign::Close))?;
     Ok(NewRow { values })
 }
 
-// {, row}
-fn more_rows(alloc: Global, tokens: &mut Tokens<'_>) -> Result<List<NewRow>, Fail>
-    ensures { Reads (links_from (by w.COMMA) (reads_part spec.NewRow) alone (length tokens.old) [] tokens.old) result tokens.new }
+// row {, row}
+fn row_list(alloc: Global, tokens: &mut Tokens<'_>) -> Result<List<NewRow>, Fail>
+    ensures { Reads (listed w.COMMA (reads_part spec.NewRow) tokens.old) result tokens.new }
 {
-    let mut found = List::new(alloc);
-    for _turn in 0..tokens.left() {
-        if !tokens.eat_sign(Mark::Comma) {
-            return Ok(found);
-        }
-        found.push(new_row(alloc, tokens)?)?;
-    }
-    Ok(found)
+    list(
+        alloc,
+        tokens,
+        Mark::Sign(Sign::Comma),
+        |tokens| new_row(alloc, tokens),
+    )
 }
 
 // VALUES row {, row} | DEFAULT VALUES | query
@@ -122,13 +102,12 @@ fn more_rows(alloc: Global, tokens: &mut Tokens<'_>) -> Result<List<NewRow>, Fai
 pub(crate) fn new_rows(alloc: Global, tokens: &mut Tokens<'_>) -> Result<NewRows, Fail>
     ensures { Reads (reads_part spec.NewRows tokens.old) result tokens.new }
 {
-    if tokens.eat(Keyword::Values) {
-        let first = new_row(alloc, tokens)?;
-        let more = more_rows(alloc, tokens)?;
-        return Ok(NewRows::Values(joined(alloc, first, more)?));
+    if tokens.eat(Mark::Keyword(Keyword::Values)) {
+        let rows = row_list(alloc, tokens)?;
+        return Ok(NewRows::Values(rows));
     }
-    if tokens.eat(Keyword::Default) {
-        tokens.expect(Keyword::Values)?;
+    if tokens.eat(Mark::Keyword(Keyword::Default)) {
+        tokens.expect(Mark::Keyword(Keyword::Values))?;
         return Ok(NewRows::Defaults);
     }
     Ok(NewRows::Query(read_query(alloc, tokens)?))
@@ -139,7 +118,7 @@ pub(crate) fn new_rows(alloc: Global, tokens: &mut Tokens<'_>) -> Result<NewRows
 pub(crate) fn returning(alloc: Global, tokens: &mut Tokens<'_>) -> Result<List<Item>, Fail>
     ensures { Reads (reads_part spec.Returning tokens.old) result tokens.new }
 {
-    if !tokens.eat(Keyword::Returning) {
+    if !tokens.eat(Mark::Keyword(Keyword::Returning)) {
         return Ok(List::new(alloc));
     }
     read_items(alloc, tokens)
@@ -150,7 +129,7 @@ pub(crate) fn returning(alloc: Global, tokens: &mut Tokens<'_>) -> Result<List<I
 pub(crate) fn insert_alias(tokens: &mut Tokens<'_>) -> Result<Option<Name>, Fail>
     ensures { Reads (reads_part spec.InsertAlias tokens.old) result tokens.new }
 {
-    if !tokens.eat(Keyword::As) {
+    if !tokens.eat(Mark::Keyword(Keyword::As)) {
         return Ok(None);
     }
     Ok(Some(tokens.name()?))
@@ -161,17 +140,17 @@ pub(crate) fn insert_alias(tokens: &mut Tokens<'_>) -> Result<Option<Name>, Fail
 pub(crate) fn insert(alloc: Global, tokens: &mut Tokens<'_>) -> Result<Command, Fail>
     ensures { Reads (reads_part spec.Insert tokens.old) result tokens.new }
 {
-    tokens.expect(Keyword::Into)?;
-    let table = tokens.name()?;
+    tokens.expect(Mark::Keyword(Keyword::Into))?;
+    let table = tokens.table_name()?;
     let alias = insert_alias(tokens)?;
     let columns = columns(alloc, tokens)?;
-    let rows = new_rows(alloc, tokens)?;
+    let rows = Held::new(new_rows(alloc, tokens)?);
     let returning = returning(alloc, tokens)?;
     Ok(Command::Insert(Insert {
         table,
         alias,
         columns,
-        rows,
+        rows: rows.into_inner(),
         returning,
     }))
 }
@@ -181,7 +160,7 @@ pub(crate) fn insert(alloc: Global, tokens: &mut Tokens<'_>) -> Result<Command, 
 pub(crate) fn condition(alloc: Global, tokens: &mut Tokens<'_>) -> Result<Option<Boxed<Expr>>, Fail>
     ensures { Reads (reads_part spec.Condition tokens.old) result tokens.new }
 {
-    if !tokens.eat(Keyword::Where) {
+    if !tokens.eat(Mark::Keyword(Keyword::Where)) {
         return Ok(None);
     }
     let condition = read_expression(alloc, tokens)?;
@@ -194,23 +173,9 @@ pub(crate) fn assignment(alloc: Global, tokens: &mut Tokens<'_>) -> Result<Assig
     ensures { Reads (reads_part spec.Assignment tokens.old) result tokens.new }
 {
     let column = tokens.name()?;
-    tokens.expect_sign(Mark::Equal)?;
+    tokens.expect(Mark::Sign(Sign::Equal))?;
     let value = new_value(alloc, tokens)?;
     Ok(Assignment { column, value })
-}
-
-// {, name = value}
-fn more_assignments(alloc: Global, tokens: &mut Tokens<'_>) -> Result<List<Assignment>, Fail>
-    ensures { Reads (links_from (by w.COMMA) (reads_part spec.Assignment) alone (length tokens.old) [] tokens.old) result tokens.new }
-{
-    let mut found = List::new(alloc);
-    for _turn in 0..tokens.left() {
-        if !tokens.eat_sign(Mark::Comma) {
-            return Ok(found);
-        }
-        found.push(assignment(alloc, tokens)?)?;
-    }
-    Ok(found)
 }
 
 // [[AS] name] SET name
@@ -218,18 +183,41 @@ fn more_assignments(alloc: Global, tokens: &mut Tokens<'_>) -> Result<List<Assig
 pub(crate) fn first_column(tokens: &mut Tokens<'_>) -> Result<(Option<Name>, Name), Fail>
     ensures { Reads (reads_part spec.FirstColumn tokens.old) result tokens.new }
 {
-    if tokens.eat(Keyword::As) {
+    if tokens.eat(Mark::Keyword(Keyword::As)) {
         let alias = tokens.name()?;
-        tokens.expect_word("set")?;
+        tokens.expect(Mark::Word("set"))?;
         return Ok((Some(alias), tokens.name()?));
     }
-    if tokens.sees_word_between_names("set") {
-        let alias = tokens.name()?;
-        tokens.expect_word("set")?;
+    if tokens.sees_three(Mark::Name, Mark::Word("set"), Mark::Name) {
+        let alias = tokens.bare_alias()?;
+        tokens.expect(Mark::Word("set"))?;
         return Ok((Some(alias), tokens.name()?));
     }
-    tokens.expect_word("set")?;
+    tokens.expect(Mark::Word("set"))?;
     Ok((None, tokens.name()?))
+}
+
+// {, name = value}
+fn more_assignments(alloc: Global, tokens: &mut Tokens<'_>) -> Result<List<Assignment>, Fail>
+    ensures { Reads (links_from (by w.COMMA) (reads_part spec.Assignment) alone
+        (length tokens.old) [] tokens.old) result tokens.new }
+{
+    links(
+        alloc,
+        tokens,
+        Mark::Sign(Sign::Comma),
+        |tokens| assignment(alloc, tokens),
+    )
+}
+
+// = value {, name = value}
+fn assigned(alloc: Global, tokens: &mut Tokens<'_>) -> Result<(NewValue, List<Assignment>), Fail>
+    ensures { Reads (reads spec.assigned tokens.old) result tokens.new }
+{
+    tokens.expect(Mark::Sign(Sign::Equal))?;
+    let value = Held::new(new_value(alloc, tokens)?);
+    let more = more_assignments(alloc, tokens)?;
+    Ok((value.into_inner(), more))
 }
 
 // UPDATE, behind that word.
@@ -237,11 +225,9 @@ pub(crate) fn first_column(tokens: &mut Tokens<'_>) -> Result<(Option<Name>, Nam
 pub(crate) fn update(alloc: Global, tokens: &mut Tokens<'_>) -> Result<Command, Fail>
     ensures { Reads (reads_part spec.Update tokens.old) result tokens.new }
 {
-    let table = tokens.name()?;
+    let table = tokens.table_name()?;
     let (alias, column) = first_column(tokens)?;
-    tokens.expect_sign(Mark::Equal)?;
-    let value = new_value(alloc, tokens)?;
-    let more = more_assignments(alloc, tokens)?;
+    let (value, more) = assigned(alloc, tokens)?;
     let assignments = joined(alloc, Assignment { column, value }, more)?;
     let condition = condition(alloc, tokens)?;
     let returning = returning(alloc, tokens)?;
@@ -259,8 +245,8 @@ pub(crate) fn update(alloc: Global, tokens: &mut Tokens<'_>) -> Result<Command, 
 pub(crate) fn delete(alloc: Global, tokens: &mut Tokens<'_>) -> Result<Command, Fail>
     ensures { Reads (reads_part spec.Delete tokens.old) result tokens.new }
 {
-    tokens.expect(Keyword::From)?;
-    let table = tokens.name()?;
+    tokens.expect(Mark::Keyword(Keyword::From))?;
+    let table = tokens.table_name()?;
     let alias = read_alias(alloc, tokens)?;
     let condition = condition(alloc, tokens)?;
     let returning = returning(alloc, tokens)?;

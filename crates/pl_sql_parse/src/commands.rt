@@ -1,21 +1,15 @@
 //! Commands that define nothing.
 
-ghost use Rattle.std.specs.Prelude.{[], ◌∷◌, ◌≡◌, length};
-ghost use Rattle.pl_grammar.specs.Parser.{Reads, links_from, many_from, take, begins};
-ghost use Rattle.pl_grammar.specs.Marks.{a_name};
-ghost use Rattle.pl_grammar.specs.Forms.{alone, by};
-ghost use Rattle.pl_grammar.specs.Words as w;
-ghost use Rattle.pl_expr_parse.specs.Grammar as x;
-ghost use Rattle.pl_expr_parse.specs.Finished.{reads_front};
+ghost use Rattle.pl_grammar.specs.Parser.{Reads};
 ghost use Rattle.pl_sql_parse.specs.Grammar as spec;
-ghost use Rattle.pl_sql_parse.specs.Edges.{reads_part, firsts};
+ghost use Rattle.pl_sql_parse.specs.FirstFollow.{reads, reads_part};
 
 use crate::changes::{delete, insert, update};
 use crate::trees::call_of;
 use pl_base::Name;
 use pl_expr_parse::{read_arguments, read_query};
-use pl_grammar::{Fail, Tokens};
-use pl_lex::{Keyword, Sign as Mark};
+use pl_grammar::{Fail, Mark, Tokens};
+use pl_lex::{Keyword, Sign};
 use pl_tree::Command;
 use std::alloc::Global;
 
@@ -24,8 +18,8 @@ use std::alloc::Global;
 pub(crate) fn work(tokens: &mut Tokens<'_>) -> Result<(), Fail>
     ensures { Reads (reads_part spec.Work tokens.old) result tokens.new }
 {
-    if !tokens.eat_word("work") {
-        tokens.eat_word("transaction");
+    if !tokens.eat(Mark::Word("work")) {
+        tokens.eat(Mark::Word("transaction"));
     }
     Ok(())
 }
@@ -35,8 +29,8 @@ pub(crate) fn work(tokens: &mut Tokens<'_>) -> Result<(), Fail>
 pub(crate) fn savepoint_name(tokens: &mut Tokens<'_>) -> Result<Name, Fail>
     ensures { Reads (reads_part spec.SavepointName tokens.old) result tokens.new }
 {
-    if tokens.sees_word_before_name("savepoint") {
-        tokens.expect_word("savepoint")?;
+    if tokens.sees_two(Mark::Word("savepoint"), Mark::Name) {
+        tokens.expect(Mark::Word("savepoint"))?;
         return tokens.name();
     }
     tokens.name()
@@ -48,10 +42,28 @@ pub(crate) fn rollback(tokens: &mut Tokens<'_>) -> Result<Command, Fail>
     ensures { Reads (reads_part spec.Rollback tokens.old) result tokens.new }
 {
     work(tokens)?;
-    if tokens.eat(Keyword::To) {
+    if tokens.eat(Mark::Keyword(Keyword::To)) {
         return Ok(Command::RollbackTo(savepoint_name(tokens)?));
     }
     Ok(Command::Rollback)
+}
+
+// ROLLBACK, ABORT, SAVEPOINT, RELEASE
+fn undoing(tokens: &mut Tokens<'_>) -> Result<Command, Fail>
+    ensures { Reads (reads spec.undoing tokens.old) result tokens.new }
+{
+    if tokens.eat(Mark::Word("rollback")) {
+        return rollback(tokens);
+    }
+    if tokens.eat(Mark::Word("abort")) {
+        work(tokens)?;
+        return Ok(Command::Rollback);
+    }
+    if tokens.eat(Mark::Word("savepoint")) {
+        return Ok(Command::Savepoint(tokens.name()?));
+    }
+    tokens.expect(Mark::Word("release"))?;
+    Ok(Command::Release(savepoint_name(tokens)?))
 }
 
 // BEGIN, START TRANSACTION, COMMIT, END, ROLLBACK, ABORT, SAVEPOINT, RELEASE
@@ -59,34 +71,23 @@ pub(crate) fn rollback(tokens: &mut Tokens<'_>) -> Result<Command, Fail>
 pub(crate) fn transaction(tokens: &mut Tokens<'_>) -> Result<Command, Fail>
     ensures { Reads (reads_part spec.Transaction tokens.old) result tokens.new }
 {
-    if tokens.eat(Keyword::Begin) {
+    if tokens.eat(Mark::Keyword(Keyword::Begin)) {
         work(tokens)?;
         return Ok(Command::Begin);
     }
-    if tokens.eat_word("start") {
-        tokens.expect_word("transaction")?;
+    if tokens.eat(Mark::Word("start")) {
+        tokens.expect(Mark::Word("transaction"))?;
         return Ok(Command::StartTransaction);
     }
-    if tokens.eat_word("commit") {
+    if tokens.eat(Mark::Word("commit")) {
         work(tokens)?;
         return Ok(Command::Commit);
     }
-    if tokens.eat(Keyword::End) {
+    if tokens.eat(Mark::Keyword(Keyword::End)) {
         work(tokens)?;
         return Ok(Command::Commit);
     }
-    if tokens.eat_word("rollback") {
-        return rollback(tokens);
-    }
-    if tokens.eat_word("abort") {
-        work(tokens)?;
-        return Ok(Command::Rollback);
-    }
-    if tokens.eat_word("savepoint") {
-        return Ok(Command::Savepoint(tokens.name()?));
-    }
-    tokens.expect_word("release")?;
-    Ok(Command::Release(savepoint_name(tokens)?))
+    undoing(tokens)
 }
 
 // DO, behind that word.
@@ -94,7 +95,7 @@ pub(crate) fn transaction(tokens: &mut Tokens<'_>) -> Result<Command, Fail>
 pub(crate) fn do_body(alloc: Global, tokens: &mut Tokens<'_>) -> Result<Command, Fail>
     ensures { Reads (reads_part spec.Do tokens.old) result tokens.new }
 {
-    if tokens.eat_word("language") {
+    if tokens.eat(Mark::Word("language")) {
         let language = tokens.name()?;
         let body = tokens.text(alloc)?;
         return Ok(Command::Do {
@@ -103,7 +104,7 @@ pub(crate) fn do_body(alloc: Global, tokens: &mut Tokens<'_>) -> Result<Command,
         });
     }
     let body = tokens.text(alloc)?;
-    if tokens.eat_word("language") {
+    if tokens.eat(Mark::Word("language")) {
         let language = tokens.name()?;
         return Ok(Command::Do {
             language: Some(language),
@@ -122,7 +123,7 @@ pub(crate) fn call(alloc: Global, tokens: &mut Tokens<'_>) -> Result<Command, Fa
     ensures { Reads (reads_part spec.Call tokens.old) result tokens.new }
 {
     let name = tokens.name()?;
-    tokens.expect_sign(Mark::Open)?;
+    tokens.expect(Mark::Sign(Sign::Open))?;
     let arguments = read_arguments(alloc, tokens)?;
     call_of(name, arguments)
 }
@@ -132,22 +133,22 @@ pub(crate) fn call(alloc: Global, tokens: &mut Tokens<'_>) -> Result<Command, Fa
 pub(crate) fn command(alloc: Global, tokens: &mut Tokens<'_>) -> Result<Command, Fail>
     ensures { Reads (reads_part spec.Command tokens.old) result tokens.new }
 {
-    if tokens.eat(Keyword::Insert) {
+    if tokens.eat(Mark::Keyword(Keyword::Insert)) {
         return insert(alloc, tokens);
     }
-    if tokens.eat(Keyword::Update) {
+    if tokens.eat(Mark::Keyword(Keyword::Update)) {
         return update(alloc, tokens);
     }
-    if tokens.eat(Keyword::Delete) {
+    if tokens.eat(Mark::Keyword(Keyword::Delete)) {
         return delete(alloc, tokens);
     }
-    if tokens.eat(Keyword::Do) {
+    if tokens.eat(Mark::Keyword(Keyword::Do)) {
         return do_body(alloc, tokens);
     }
-    if tokens.eat_word("call") {
+    if tokens.eat(Mark::Word("call")) {
         return call(alloc, tokens);
     }
-    if tokens.sees(Keyword::Select) {
+    if tokens.sees(Mark::Keyword(Keyword::Select)) {
         return Ok(Command::Query(read_query(alloc, tokens)?));
     }
     transaction(tokens)

@@ -4,11 +4,13 @@
 mod changes;
 mod commands;
 mod definitions;
+mod drops;
 mod left_out;
 mod parse;
 mod parts;
 mod routines;
 mod tables;
 mod trees;
+mod triggers;
 
 pub use parse::{one_command, parse_command};

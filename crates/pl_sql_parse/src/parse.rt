@@ -1,63 +1,45 @@
 //! Whole commands.
 
-ghost use Rattle.std.specs.Prelude.{◌≡◌, ◌≤◌, ◌↔◌, ℕ, Some, List as Items, length, IfOk, IsErrOf};
+ghost use Rattle.std.specs.Prelude.{◌≡◌, ◌↔◌, Some, List as Items, IfOk};
 ghost use Rattle.pl_grammar.specs.Marks.{kinds};
-ghost use Rattle.pl_grammar.specs.Rule.{SpelledBy};
-ghost use Rattle.pl_lex.specs.Lexemes.{StandIn};
+ghost use Rattle.pl_grammar.specs.Parser.{Makes, ReadsAll};
 ghost use Rattle.pl_lex.specs.Characters.{Text};
 ghost use Rattle.pl_lex.specs.declared.token.Token.{Token as OneToken};
-ghost use Rattle.pl_tree.specs.declared.command.Command.{Command as CommandTree};
+ghost use Rattle.pl_tree.specs.declared.command.Command.{Command as Tree};
 ghost use Rattle.pl_sql_parse.specs.Grammar as spec;
-ghost use Rattle.pl_sql_parse.specs.Reading.{command_in};
-ghost use Rattle.pl_sql_parse.specs.Spells.{SpellsCommand, NoneSpells, Answers, source_of, begins_definition};
+ghost use Rattle.pl_sql_parse.specs.FirstFollow.{reads_part};
+ghost use Rattle.pl_sql_parse.specs.Computed.{command_in};
+ghost use Rattle.pl_sql_parse.specs.Spells.{Placed, SpellsCommand, Answers};
+ghost use Rattle.pl_sql_parse.specs.Spells.{begins_definition};
+ghost use Rattle.pl_lex.specs.Slices.{slice_of};
 
 use crate::commands::command;
 use crate::definitions::definition;
 use crate::left_out::is_left_out;
-use pl_base::Txt;
-use pl_grammar::{Fail, ParseFail, Tokens, deep};
+use pl_base::{Held, Txt};
+use pl_grammar::{Fail, Mark, ParseFail, Tokens, deep, whole};
 use pl_lex::{Keyword, Token};
 use pl_tree::{Command, Definition};
 use std::alloc::{AllocError, Global};
 
 // The whole list as one command that defines nothing.
 fn whole_command(alloc: Global, tokens: &[Token]) -> Result<Command, Fail>
-    ensures found { IfOk result (λ x. SpelledBy spec.rule spec.Command x (kinds tokens.now)) }
-    ensures only { IfOk result (λ x. (other : spec.Tree spec.Command) → SpelledBy spec.rule spec.Command other (kinds tokens.now) → other ≡ x) }
-    ensures syntax { IsErrOf result Fail.Syntax → (x : spec.Tree spec.Command) → SpelledBy spec.rule spec.Command x (kinds tokens.now) → ⊥ }
+    ensures { ReadsAll (reads_part spec.Command (kinds tokens.now)) result }
 {
-    let mut rest = Tokens::new(tokens);
-    let x = match command(alloc, &mut rest) {
-        Ok(x) => x,
-        Err(fail) => return Err(fail),
-    };
-    if rest.left() != 0 {
-        return Err(Fail::Syntax);
-    }
-    Ok(x)
+    whole(tokens, |rest| command(alloc, rest))
 }
 
 // The whole list as one definition.
 fn whole_definition(alloc: Global, tokens: &[Token]) -> Result<Definition, Fail>
-    ensures found { IfOk result (λ x. SpelledBy spec.rule spec.Definition x (kinds tokens.now)) }
-    ensures only { IfOk result (λ x. (other : spec.Tree spec.Definition) → SpelledBy spec.rule spec.Definition other (kinds tokens.now) → other ≡ x) }
-    ensures syntax { IsErrOf result Fail.Syntax → (x : spec.Tree spec.Definition) → SpelledBy spec.rule spec.Definition x (kinds tokens.now) → ⊥ }
+    ensures { ReadsAll (reads_part spec.Definition (kinds tokens.now)) result }
 {
-    let mut rest = Tokens::new(tokens);
-    let x = match definition(alloc, &mut rest) {
-        Ok(x) => x,
-        Err(fail) => return Err(fail),
-    };
-    if rest.left() != 0 {
-        return Err(Fail::Syntax);
-    }
-    Ok(x)
+    whole(tokens, |rest| definition(alloc, rest))
 }
 
 // The text from the first byte of the first token to the last byte of the last.
 fn source(alloc: Global, tokens: &[Token], text: &str) -> Result<Txt, AllocError>
-    requires placed { (from : ℕ) × (end : ℕ) × (end ≤ length text.now) × StandIn text.now from end tokens.now }
-    ensures { IfOk result (λ source. source ≡ source_of text.now tokens.now) }
+    requires placed { Placed text.now tokens.now }
+    ensures { IfOk result (λ source. source ≡ slice_of text.now tokens.now) }
 {
     if tokens.is_empty() {
         return Txt::from_slice(alloc, b"");
@@ -72,22 +54,23 @@ fn begins_definition(tokens: &[Token]) -> bool
     ensures { result ≡ begins_definition (kinds tokens.now) }
 {
     let tokens = Tokens::new(tokens);
-    tokens.sees(Keyword::Create) || tokens.sees_word("drop")
+    tokens.sees(Mark::Keyword(Keyword::Create)) || tokens.sees(Mark::Word("drop"))
 }
 
 // The command that the tokens spell, or Syntax.
 fn shallow_command(alloc: Global, tokens: &[Token], text: &str) -> Result<Command, Fail>
-    requires placed { (from : ℕ) × (end : ℕ) × (end ≤ length text.now) × StandIn text.now from end tokens.now }
-    ensures found { IfOk result (λ x. SpellsCommand text.now x tokens.now) }
-    ensures only { IfOk result (λ x. (other : spec.Tree spec.Command) → SpellsCommand text.now other tokens.now → other ≡ x) }
-    ensures syntax { IsErrOf result Fail.Syntax → NoneSpells text.now tokens.now }
+    requires placed { Placed text.now tokens.now }
+    ensures { Makes (command_in text.now tokens.now) result }
 {
     if !begins_definition(tokens) {
         return whole_command(alloc, tokens);
     }
-    let definition = whole_definition(alloc, tokens)?;
+    let definition = Held::new(whole_definition(alloc, tokens)?);
     let source = source(alloc, tokens, text)?;
-    Ok(Command::Define { definition, source })
+    Ok(Command::Define {
+        definition: definition.into_inner(),
+        source,
+    })
 }
 
 /// The command that the tokens spell. They stand in the text, in order.
@@ -95,11 +78,12 @@ fn shallow_command(alloc: Global, tokens: &[Token], text: &str) -> Result<Comman
 /// NotSupported comes where the first words are of a command that is left out, then TooDeep where more
 /// than 100 parts are open at a token, then Syntax where the tokens spell no command.
 pub fn parse_command(alloc: Global, tokens: &[Token], text: &str) -> Result<Command, ParseFail>
-    requires placed { (from : ℕ) × (end : ℕ) × (end ≤ length text.now) × StandIn text.now from end tokens.now }
+    requires placed { Placed text.now tokens.now }
     // What is read is spelled so.
     ensures found { IfOk result (λ x. SpellsCommand text.now x tokens.now) }
     // No other tree spells the tokens.
-    ensures only { IfOk result (λ x. (other : spec.Tree spec.Command) → SpellsCommand text.now other tokens.now → other ≡ x) }
+    ensures only { IfOk result (λ x.
+        (other : Tree) → SpellsCommand text.now other tokens.now → other ≡ x) }
     // Which refusal it is.
     ensures exact { Answers text.now result tokens.now }
 {
@@ -120,5 +104,6 @@ pub fn parse_command(alloc: Global, tokens: &[Token], text: &str) -> Result<Comm
 
 /// Tokens spell one command or none: the one that `command_in` computes.
 pub fn one_command()
-    ensures is { (text : Text) (tokens : Items OneToken) (x : CommandTree) → (command_in text tokens ≡ Some x) ↔ SpellsCommand text x tokens }
+    ensures is { (text : Text) (tokens : Items OneToken) (x : Tree)
+        → (command_in text tokens ≡ Some x) ↔ SpellsCommand text x tokens }
 {}

@@ -1,30 +1,35 @@
 //! CREATE FUNCTION and CREATE PROCEDURE: PostgreSQL manual, "CREATE FUNCTION" and "CREATE PROCEDURE".
 
-ghost use Rattle.std.specs.Prelude.{[], ◌∷◌, ◌≡◌, length};
-ghost use Rattle.pl_grammar.specs.Parser.{Reads, links_from, many_from, take, begins};
-ghost use Rattle.pl_grammar.specs.Marks.{a_name};
-ghost use Rattle.pl_grammar.specs.Forms.{alone, by};
+ghost use Rattle.std.specs.Prelude.{◌≡◌};
+ghost use Rattle.pl_grammar.specs.Parser.{Reads, listed};
 ghost use Rattle.pl_grammar.specs.Words as w;
-ghost use Rattle.pl_expr_parse.specs.Grammar as x;
-ghost use Rattle.pl_expr_parse.specs.Finished.{reads_front};
 ghost use Rattle.pl_sql_parse.specs.Grammar as spec;
-ghost use Rattle.pl_sql_parse.specs.Edges.{reads_part, firsts, other_clause};
+ghost use Rattle.pl_sql_parse.specs.FirstFollow.{reads_part};
 
 use crate::parts::Clause;
 use crate::trees::routine_of;
 use pl_base::{List, Name, Txt, Ty};
 use pl_expr_parse::read_type;
-use pl_grammar::{Fail, Tokens, joined};
-use pl_lex::{Keyword, Sign as Mark};
+use pl_grammar::{Fail, Mark, Tokens, list, many};
+use pl_lex::{Keyword, Sign};
 use pl_tree::{Definition, Param, ResultType, RoutineKind, Way};
 use std::alloc::Global;
+
+// What a clause of a routine begins with.
+const CLAUSES: [Mark; 5] = [
+    Mark::Word("immutable"),
+    Mark::Word("stable"),
+    Mark::Word("volatile"),
+    Mark::Word("language"),
+    Mark::Keyword(Keyword::As),
+];
 
 // [name] type
 #[tactic(auto, using(crate::proofs::Step::gives, crate::proofs::Step::then_reads, crate::proofs::Step::else_reads))]
 pub(crate) fn named_type(alloc: Global, tokens: &mut Tokens<'_>) -> Result<(Option<Name>, Ty), Fail>
     ensures { Reads (reads_part spec.NamedType tokens.old) result tokens.new }
 {
-    if tokens.sees_two_names() {
+    if tokens.sees_two(Mark::Name, Mark::Name) {
         let name = tokens.name()?;
         return Ok((Some(name), read_type(alloc, tokens)?));
     }
@@ -36,7 +41,7 @@ pub(crate) fn named_type(alloc: Global, tokens: &mut Tokens<'_>) -> Result<(Opti
 pub(crate) fn way_param(alloc: Global, tokens: &mut Tokens<'_>) -> Result<Param, Fail>
     ensures { Reads (reads_part spec.WayParam tokens.old) result tokens.new }
 {
-    if tokens.eat_word("out") {
+    if tokens.eat(Mark::Word("out")) {
         let (name, ty) = named_type(alloc, tokens)?;
         return Ok(Param {
             way: Way::Out,
@@ -44,7 +49,7 @@ pub(crate) fn way_param(alloc: Global, tokens: &mut Tokens<'_>) -> Result<Param,
             ty,
         });
     }
-    tokens.expect_word("inout")?;
+    tokens.expect(Mark::Word("inout"))?;
     let (name, ty) = named_type(alloc, tokens)?;
     Ok(Param {
         way: Way::InOut,
@@ -57,7 +62,8 @@ pub(crate) fn way_param(alloc: Global, tokens: &mut Tokens<'_>) -> Result<Param,
 fn has_way(tokens: &Tokens<'_>) -> bool
     ensures { result ≡ spec.has_way tokens.now }
 {
-    tokens.sees_word_before_name("out") || tokens.sees_word_before_name("inout")
+    tokens.sees_two(Mark::Word("out"), Mark::Name)
+        || tokens.sees_two(Mark::Word("inout"), Mark::Name)
 }
 
 // [IN | OUT | INOUT] [name] type
@@ -65,7 +71,7 @@ fn has_way(tokens: &Tokens<'_>) -> bool
 pub(crate) fn param(alloc: Global, tokens: &mut Tokens<'_>) -> Result<Param, Fail>
     ensures { Reads (reads_part spec.Param tokens.old) result tokens.new }
 {
-    if tokens.eat(Keyword::In) {
+    if tokens.eat(Mark::Keyword(Keyword::In)) {
         let (name, ty) = named_type(alloc, tokens)?;
         return Ok(Param {
             way: Way::In,
@@ -84,19 +90,16 @@ pub(crate) fn param(alloc: Global, tokens: &mut Tokens<'_>) -> Result<Param, Fai
     })
 }
 
-// {, param}
-fn more_params(alloc: Global, tokens: &mut Tokens<'_>) -> Result<List<Param>, Fail>
-    ensures { Reads (links_from (by w.COMMA) (reads_part spec.Param) alone (length tokens.old) [] tokens.old) result tokens.new }
+// param {, param}
+fn param_list(alloc: Global, tokens: &mut Tokens<'_>) -> Result<List<Param>, Fail>
+    ensures { Reads (listed w.COMMA (reads_part spec.Param) tokens.old) result tokens.new }
 {
-    let mut found = List::new(alloc);
-    for _turn in 0..tokens.left() {
-        if !tokens.eat_sign(Mark::Comma) {
-            return Ok(found);
-        }
-        let Param { way, name, ty } = param(alloc, tokens)?;
-        found.push(Param { way, name, ty })?;
-    }
-    Ok(found)
+    list(
+        alloc,
+        tokens,
+        Mark::Sign(Sign::Comma),
+        |tokens| param(alloc, tokens),
+    )
 }
 
 // [param {, param}])
@@ -104,13 +107,11 @@ fn more_params(alloc: Global, tokens: &mut Tokens<'_>) -> Result<List<Param>, Fa
 pub(crate) fn params(alloc: Global, tokens: &mut Tokens<'_>) -> Result<List<Param>, Fail>
     ensures { Reads (reads_part spec.Params tokens.old) result tokens.new }
 {
-    if tokens.eat_sign(Mark::Close) {
+    if tokens.eat(Mark::Sign(Sign::Close)) {
         return Ok(List::new(alloc));
     }
-    let Param { way, name, ty } = param(alloc, tokens)?;
-    let more = more_params(alloc, tokens)?;
-    let params = joined(alloc, Param { way, name, ty }, more)?;
-    tokens.expect_sign(Mark::Close)?;
+    let params = param_list(alloc, tokens)?;
+    tokens.expect(Mark::Sign(Sign::Close))?;
     Ok(params)
 }
 
@@ -120,7 +121,7 @@ pub(crate) fn signature(alloc: Global, tokens: &mut Tokens<'_>) -> Result<(Name,
     ensures { Reads (reads_part spec.Signature tokens.old) result tokens.new }
 {
     let name = tokens.name()?;
-    tokens.expect_sign(Mark::Open)?;
+    tokens.expect(Mark::Sign(Sign::Open))?;
     Ok((name, params(alloc, tokens)?))
 }
 
@@ -129,7 +130,7 @@ pub(crate) fn signature(alloc: Global, tokens: &mut Tokens<'_>) -> Result<(Name,
 pub(crate) fn language_name(alloc: Global, tokens: &mut Tokens<'_>) -> Result<Txt, Fail>
     ensures { Reads (reads_part spec.LanguageName tokens.old) result tokens.new }
 {
-    if tokens.sees_name() {
+    if tokens.sees(Mark::Name) {
         let name = tokens.name()?;
         return Ok(Txt::from_slice(alloc, name.as_bytes())?);
     }
@@ -141,64 +142,28 @@ pub(crate) fn language_name(alloc: Global, tokens: &mut Tokens<'_>) -> Result<Tx
 pub(crate) fn clause(alloc: Global, tokens: &mut Tokens<'_>) -> Result<Clause, Fail>
     ensures { Reads (reads_part spec.Clause tokens.old) result tokens.new }
 {
-    if tokens.eat_word("language") {
+    if tokens.eat(Mark::Word("language")) {
         return Ok(Clause::Language(language_name(alloc, tokens)?));
     }
-    if tokens.eat(Keyword::As) {
+    if tokens.eat(Mark::Keyword(Keyword::As)) {
         return Ok(Clause::Body(tokens.text(alloc)?));
     }
-    if tokens.eat_word("immutable") {
+    if tokens.eat(Mark::Word("immutable")) {
         return Ok(Clause::Volatility);
     }
-    if tokens.eat_word("stable") {
+    if tokens.eat(Mark::Word("stable")) {
         return Ok(Clause::Volatility);
     }
-    tokens.expect_word("volatile")?;
+    tokens.expect(Mark::Word("volatile"))?;
     Ok(Clause::Volatility)
 }
 
-// Whether a clause other than IMMUTABLE and STABLE begins here.
-#[tactic(auto, using(pl_grammar::proofs::Turns::begins_here, pl_grammar::proofs::Turns::begins_past, pl_grammar::proofs::Turns::begins_none))]
-fn sees_other_clause(tokens: &Tokens<'_>) -> bool
-    ensures { result ≡ begins other_clause tokens.now }
-{
-    tokens.sees_word("volatile") || tokens.sees_word("language") || tokens.sees(Keyword::As)
-}
-
-// Whether a clause begins here.
-#[tactic(auto, using(pl_grammar::proofs::Turns::begins_here, pl_grammar::proofs::Turns::begins_past))]
-fn sees_clause(tokens: &Tokens<'_>) -> bool
-    ensures { result ≡ begins (firsts spec.Clause) tokens.now }
-{
-    if tokens.sees_word("immutable") {
-        return true;
-    }
-    if tokens.sees_word("stable") {
-        return true;
-    }
-    sees_other_clause(tokens)
-}
-
 // {clause}
-fn each_clause(alloc: Global, tokens: &mut Tokens<'_>) -> Result<List<Clause>, Fail>
-    ensures { Reads (many_from (firsts spec.Clause) (reads_part spec.Clause) (length tokens.old) [] tokens.old) result tokens.new }
-{
-    let mut found = List::new(alloc);
-    for _turn in 0..tokens.left() {
-        if !sees_clause(tokens) {
-            return Ok(found);
-        }
-        found.push(clause(alloc, tokens)?)?;
-    }
-    Ok(found)
-}
-
-// The clauses of a routine.
 #[tactic(auto, using(crate::proofs::Step::gives))]
 pub(crate) fn clauses(alloc: Global, tokens: &mut Tokens<'_>) -> Result<List<Clause>, Fail>
     ensures { Reads (reads_part spec.Clauses tokens.old) result tokens.new }
 {
-    each_clause(alloc, tokens)
+    many(alloc, tokens, &CLAUSES, |tokens| clause(alloc, tokens))
 }
 
 // name type
@@ -215,19 +180,16 @@ pub(crate) fn result_column(alloc: Global, tokens: &mut Tokens<'_>) -> Result<Pa
     })
 }
 
-// {, column}
-fn more_columns(alloc: Global, tokens: &mut Tokens<'_>) -> Result<List<Param>, Fail>
-    ensures { Reads (links_from (by w.COMMA) (reads_part spec.ResultColumn) alone (length tokens.old) [] tokens.old) result tokens.new }
+// column {, column}
+fn column_list(alloc: Global, tokens: &mut Tokens<'_>) -> Result<List<Param>, Fail>
+    ensures { Reads (listed w.COMMA (reads_part spec.ResultColumn) tokens.old) result tokens.new }
 {
-    let mut found = List::new(alloc);
-    for _turn in 0..tokens.left() {
-        if !tokens.eat_sign(Mark::Comma) {
-            return Ok(found);
-        }
-        let Param { way, name, ty } = result_column(alloc, tokens)?;
-        found.push(Param { way, name, ty })?;
-    }
-    Ok(found)
+    list(
+        alloc,
+        tokens,
+        Mark::Sign(Sign::Comma),
+        |tokens| result_column(alloc, tokens),
+    )
 }
 
 // (column {, column})
@@ -235,11 +197,9 @@ fn more_columns(alloc: Global, tokens: &mut Tokens<'_>) -> Result<List<Param>, F
 pub(crate) fn result_columns(alloc: Global, tokens: &mut Tokens<'_>) -> Result<List<Param>, Fail>
     ensures { Reads (reads_part spec.ResultColumns tokens.old) result tokens.new }
 {
-    tokens.expect_sign(Mark::Open)?;
-    let Param { way, name, ty } = result_column(alloc, tokens)?;
-    let more = more_columns(alloc, tokens)?;
-    let columns = joined(alloc, Param { way, name, ty }, more)?;
-    tokens.expect_sign(Mark::Close)?;
+    tokens.expect(Mark::Sign(Sign::Open))?;
+    let columns = column_list(alloc, tokens)?;
+    tokens.expect(Mark::Sign(Sign::Close))?;
     Ok(columns)
 }
 
@@ -251,13 +211,13 @@ pub(crate) fn result(
 ) -> Result<(ResultType, List<Clause>), Fail>
     ensures { Reads (reads_part spec.Result tokens.old) result tokens.new }
 {
-    if tokens.eat(Keyword::Table) {
+    if tokens.eat(Mark::Keyword(Keyword::Table)) {
         let columns = result_columns(alloc, tokens)?;
         let clauses = clauses(alloc, tokens)?;
         return Ok((ResultType::Columns(columns), clauses));
     }
-    if tokens.sees_word_before_name("setof") {
-        tokens.expect_word("setof")?;
+    if tokens.sees_two(Mark::Word("setof"), Mark::Name) {
+        tokens.expect(Mark::Word("setof"))?;
         let ty = read_type(alloc, tokens)?;
         let clauses = clauses(alloc, tokens)?;
         return Ok((ResultType::Set(ty), clauses));
@@ -275,7 +235,7 @@ pub(crate) fn returned(
 ) -> Result<(ResultType, List<Clause>), Fail>
     ensures { Reads (reads_part spec.Returned tokens.old) result tokens.new }
 {
-    if tokens.eat_word("returns") {
+    if tokens.eat(Mark::Word("returns")) {
         return result(alloc, tokens);
     }
     Ok((ResultType::Absent, clauses(alloc, tokens)?))
@@ -286,10 +246,10 @@ pub(crate) fn returned(
 pub(crate) fn or_replace(tokens: &mut Tokens<'_>) -> Result<bool, Fail>
     ensures { Reads (reads_part spec.OrReplace tokens.old) result tokens.new }
 {
-    if !tokens.eat(Keyword::Or) {
+    if !tokens.eat(Mark::Keyword(Keyword::Or)) {
         return Ok(false);
     }
-    tokens.expect_word("replace")?;
+    tokens.expect(Mark::Word("replace"))?;
     Ok(true)
 }
 
@@ -299,7 +259,7 @@ pub(crate) fn new_routine(alloc: Global, tokens: &mut Tokens<'_>) -> Result<Defi
     ensures { Reads (reads_part spec.NewRoutine tokens.old) result tokens.new }
 {
     let or_replace = or_replace(tokens)?;
-    if tokens.eat_word("function") {
+    if tokens.eat(Mark::Word("function")) {
         let (name, params) = signature(alloc, tokens)?;
         let (result, clauses) = returned(alloc, tokens)?;
         return routine_of(
@@ -312,7 +272,7 @@ pub(crate) fn new_routine(alloc: Global, tokens: &mut Tokens<'_>) -> Result<Defi
             clauses,
         );
     }
-    tokens.expect_word("procedure")?;
+    tokens.expect(Mark::Word("procedure"))?;
     let (name, params) = signature(alloc, tokens)?;
     let clauses = clauses(alloc, tokens)?;
     routine_of(

@@ -5,7 +5,7 @@ ghost use Rattle.pl_grammar.specs.Parser.{Makes};
 ghost use Rattle.pl_sql_parse.specs.Trees as spec;
 
 use crate::parts::Clause;
-use pl_base::{List, Name, Txt, Ty};
+use pl_base::{Held, List, Name, Txt, Ty};
 use pl_expr_parse::may_have;
 use pl_grammar::Fail;
 use pl_tree::{
@@ -138,6 +138,7 @@ pub(crate) fn routine_of(
 ) -> Result<Definition, Fail>
     ensures { Makes (spec.routine_of or_replace kind name params returned clauses) result }
 {
+    let returned = Held::new(returned);
     let language = language_of(alloc, clauses.as_slice())?;
     let body = body_of(alloc, clauses.as_slice())?;
     Ok(Definition::CreateRoutine(NewRoutine {
@@ -145,7 +146,7 @@ pub(crate) fn routine_of(
         kind,
         name,
         params,
-        result: returned,
+        result: returned.into_inner(),
         language,
         body,
     }))

@@ -200,7 +200,7 @@ pub enum TableRule {
     },
 }
 
-#[derive(Clone, Copy, Debug, PartialEq, Eq)]
+#[derive(Clone, Copy)]
 pub enum RoutineKind {
     Function,
     Procedure,
@@ -221,7 +221,7 @@ pub struct NewRoutine {
 }
 
 /// Which way a parameter goes.
-#[derive(Clone, Copy, Debug, PartialEq, Eq)]
+#[derive(Clone, Copy)]
 pub enum Way {
     In,
     Out,
@@ -248,13 +248,13 @@ pub enum ResultType {
     Columns(List<Param>),
 }
 
-#[derive(Clone, Copy, Debug, PartialEq, Eq)]
+#[derive(Clone, Copy)]
 pub enum Timing {
     Before,
     After,
 }
 
-#[derive(Clone, Copy, Debug, PartialEq, Eq)]
+#[derive(Clone, Copy)]
 pub enum TriggerEvent {
     Insert,
     Update,

@@ -1,6 +1,7 @@
-use Rattle.std.proofs.Common.{◌≡◌, ◌-◌, ◌+◌, ◌++◌, ◌∷◌, [], true, false, replicate, ap, ◌∙◌, sym, rules, arith}
+use Rattle.std.proofs.Common.{◌≡◌, ◌-◌, ◌+◌, true, false, replicate, rules, arith}
 use Rattle.std.proofs.lemmas.Grind.{common_steps}
-use Rattle.pl_grammar.specs.Parser.{sees, links_from, pure}
+use Rattle.pl_grammar.specs.Parser.{links_from, pure}
+use Rattle.pl_grammar.specs.Marks.{sees}
 use Rattle.pl_grammar.specs.Forms.{alone, by}
 use Rattle.pl_grammar.specs.Words.{NOT}
 use Rattle.pl_grammar.proofs.Turns.{one_turn, link_ends, link_more}

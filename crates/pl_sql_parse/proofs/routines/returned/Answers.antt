@@ -1,7 +1,7 @@
 use Rattle.std.proofs.Common.{rules, ◌≡◌, None}
 use Rattle.pl_grammar.specs.declared.fail.Fail.TheVariants.{Syntax}
 use Rattle.pl_sql_parse.specs.Grammar.{Returned}
-use Rattle.pl_sql_parse.specs.Edges.{reads_part}
+use Rattle.pl_sql_parse.specs.FirstFollow.{reads_part}
 use Rattle.pl_sql_parse.proofs.Results.{no_clauses}
 use Rattle.pl_sql_parse.proofs.routines.returned.Goals as goal
 

@@ -1,9 +1,9 @@
-use Rattle.std.proofs.Common.{◌≡◌, ◌-◌, ◌+◌, rules, arith}
+use Rattle.std.proofs.Common.{rules, arith}
 use Rattle.std.proofs.lemmas.Grind.{common_steps}
 use Rattle.pl_grammar.specs.Parser.{links_from}
 use Rattle.pl_expr_parse.specs.Grammar.{Product, terms}
 use Rattle.pl_expr_parse.specs.Trees.{term_of}
-use Rattle.pl_expr_parse.specs.Edges.{reads_part}
+use Rattle.pl_expr_parse.specs.FirstFollow.{reads_part}
 use Rattle.pl_grammar.proofs.Turns.{one_turn}
 use Rattle.pl_expr_parse.proofs.grammar.Grammar.terms.Goals as goal
 
