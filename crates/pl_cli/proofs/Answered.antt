@@ -13,7 +13,8 @@ use Rattle.pl_cli.specs.Line.{Word, asked}
 use Rattle.pl_cli.specs.Lines.{asked_in, matched_line}
 use Rattle.pl_cli.specs.declared.line.Line.{Line}
 use Rattle.pl_cli.specs.declared.line.WordsFail.{WordsFail}
-use Rattle.pl_cli.proofs.Words.{on_nothing, on_one_dash, on_refused, on_taken}
+use Rattle.pl_cli.proofs.Dashes.{on_nothing, on_one_dash}
+use Rattle.pl_cli.proofs.Words.{on_refused, on_taken}
 
 abbrev spelled : List (String Global) → List Word
 spelled = map string_bytes

@@ -1,5 +1,5 @@
 -- Where bytes stop being a script.
-use Rattle.std.proofs.Common.{◌≡◌, ◌∙◌, ◌<◌, ◌≤◌, ◌+◌, ◌-◌, ◌&&◌, ◌⊎◌, inl, inr, ⊎_elim, ℕ, Bool, true, false, true≢false, refl, sym, ap, subst, arith, List, [], ◌∷◌, ◌++◌, length, take, slice_index, length-append, length-take, get_or-take, ◌==◌}
+use Rattle.std.proofs.Common.{◌≡◌, ◌∙◌, ◌<◌, ◌≤◌, ◌+◌, ◌-◌, ◌&&◌, ◌⊎◌, inl, inr, ⊎_elim, ℕ, Bool, Option, Some, true, false, true≢false, refl, sym, ap, subst, arith, List, [], ◌∷◌, ◌++◌, length, take, slice_index, length-append, length-take, get_or-take, ◌==◌}
 use Rattle.std.proofs.lemmas.Bool.Decides.{nat_tests}
 use Rattle.std.proofs.lemmas.List.{append-nil, take-append-le, take_all, get_or_append_left}
 use Rattle.std.proofs.lemmas.Str.{length-encode, len_utf8_bounds, IsUtf8-append, utf8_valid_len-IsValidUpTo}
@@ -115,27 +115,27 @@ in_front bytes end k before zero = rw (get_or-take end bytes k 0 before, zero) r
 pub from_front : (bytes : List ℕ) (end k : ℕ) → k < end → (slice_index (take end bytes) k == 0) ≡ true → slice_index bytes k ≡ 0
 from_front bytes end k before is = sym (get_or-take end bytes k 0 before) ∙ grind (arith, nat_tests)
 
--- what was taken of the source
-abbrev Taken : List ℕ → List ℕ → Type 0
-Taken left bytes = (bytes ≡ left) ⊎ ((16777219 < length bytes) × ((rest : List ℕ) × (bytes ++ rest ≡ left)))
+-- what was taken of the source, and what is left of it then
+abbrev Taken : List ℕ → Option (List ℕ) → List ℕ → Type 0
+Taken left over bytes = ((bytes ≡ left) × (over ≡ Some [])) ⊎ ((16777219 < length bytes) × ((rest : List ℕ) × (bytes ++ rest ≡ left)))
 
-pub refused_early : (left bytes : List ℕ) (at : ℕ) → Taken left bytes → IsFirst (IsFlaw bytes) at → at < 16777216 → IsRefusedAt left at
-refused_early left bytes at (inl same) first early = subst (λ (l : List ℕ). IsRefusedAt l at) same (inl first.0, λ k before spoils. ⊎_elim (λ flaw. first.1 k before flaw) (λ limit. omega (arith, limit.0, before, early)) spoils)
-refused_early left bytes at (inr more) first early = subst (λ (l : List ℕ). IsRefusedAt l at) more.1.1 (
+pub refused_early : (left : List ℕ) (over : Option (List ℕ)) (bytes : List ℕ) (at : ℕ) → Taken left over bytes → IsFirst (IsFlaw bytes) at → at < 16777216 → IsRefusedAt left at
+refused_early left over bytes at (inl same) first early = subst (λ (l : List ℕ). IsRefusedAt l at) same.0 (inl first.0, λ k before spoils. ⊎_elim (λ flaw. first.1 k before flaw) (λ limit. omega (arith, limit.0, before, early)) spoils)
+refused_early left over bytes at (inr more) first early = subst (λ (l : List ℕ). IsRefusedAt l at) more.1.1 (
   inl (flaw_longer bytes more.1.0 at (omega (arith, early, more.0)) first.0),
   λ k before spoils. ⊎_elim (λ flaw. first.1 k before (flaw_shorter bytes more.1.0 k (omega (arith, before, early, more.0)) flaw)) (λ limit. omega (arith, limit.0, before, early)) spoils,
 )
 
-pub refused_long : (left bytes : List ℕ) → Taken left bytes → ((k : ℕ) → k < 16777216 → IsFlaw bytes k → ⊥) → 16777216 < length bytes → IsRefusedAt left 16777216
-refused_long left bytes (inl same) none long = subst (λ (l : List ℕ). IsRefusedAt l 16777216) same (inr (refl, long), λ k before spoils. ⊎_elim (λ flaw. none k before flaw) (λ limit. omega (arith, limit.0, before)) spoils)
-refused_long left bytes (inr more) none long = subst (λ (l : List ℕ). IsRefusedAt l 16777216) more.1.1 (
+pub refused_long : (left : List ℕ) (over : Option (List ℕ)) (bytes : List ℕ) → Taken left over bytes → ((k : ℕ) → k < 16777216 → IsFlaw bytes k → ⊥) → 16777216 < length bytes → IsRefusedAt left 16777216
+refused_long left over bytes (inl same) none long = subst (λ (l : List ℕ). IsRefusedAt l 16777216) same.0 (inr (refl, long), λ k before spoils. ⊎_elim (λ flaw. none k before flaw) (λ limit. omega (arith, limit.0, before)) spoils)
+refused_long left over bytes (inr more) none long = subst (λ (l : List ℕ). IsRefusedAt l 16777216) more.1.1 (
   inr (refl, omega (arith, long, length-append bytes more.1.0)),
   λ k before spoils. ⊎_elim (λ flaw. none k before (flaw_shorter bytes more.1.0 k (omega (arith, before, long)) flaw)) (λ limit. omega (arith, limit.0, before)) spoils,
 )
 
-pub past_limit : (left bytes : List ℕ) (at : ℕ) → Taken left bytes → IsFirst (IsFlaw bytes) at → 16777216 ≤ at → IsRefusedAt left 16777216
-past_limit left bytes at taken first late = refused_long left bytes taken (λ k before flaw. first.1 k (omega (arith, before, late)) flaw) (omega (arith, flaw_within bytes at first.0, late))
+pub past_limit : (left : List ℕ) (over : Option (List ℕ)) (bytes : List ℕ) (at : ℕ) → Taken left over bytes → IsFirst (IsFlaw bytes) at → 16777216 ≤ at → IsRefusedAt left 16777216
+past_limit left over bytes at taken first late = refused_long left over bytes taken (λ k before flaw. first.1 k (omega (arith, before, late)) flaw) (omega (arith, flaw_within bytes at first.0, late))
 
-pub read_well : (left bytes text : List ℕ) → Taken left bytes → ((k : ℕ) → IsFlaw bytes k → ⊥) → length bytes ≤ 16777216 → text ≡ bytes → (text ≡ left) × IsScript left
-read_well left bytes text (inl same) none short is = (is ∙ same, subst (λ (l : List ℕ). IsScript l) same (λ at spoils. ⊎_elim (none at) (λ limit. omega (arith, limit.1, short)) spoils))
-read_well left bytes text (inr more) none short is = absurd (omega (arith, more.0, short))
+pub read_well : (left : List ℕ) (over : Option (List ℕ)) (bytes text : List ℕ) → Taken left over bytes → ((k : ℕ) → IsFlaw bytes k → ⊥) → length bytes ≤ 16777216 → text ≡ bytes → (text ≡ left) × (over ≡ Some []) × IsScript left
+read_well left over bytes text (inl same) none short is = (is ∙ same.0, same.1, subst (λ (l : List ℕ). IsScript l) same.0 (λ at spoils. ⊎_elim (none at) (λ limit. omega (arith, limit.1, short)) spoils))
+read_well left over bytes text (inr more) none short is = absurd (omega (arith, more.0, short))

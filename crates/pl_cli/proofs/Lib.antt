@@ -1,5 +1,14 @@
-pub mod Covering
+mod Rows
+mod Given
+mod Ends
+mod Turns
+mod Walks
 mod Words
+mod Dashes
 mod Steps
 mod Answered
 mod Flaws
+mod Covering
+mod Chains
+mod Traces
+mod Runs

@@ -3,4 +3,7 @@ pub mod Command
 pub mod Lines
 pub mod Script
 pub mod Printed
+pub mod Endings
 pub mod Covers
+pub mod Runs
+pub mod Parts

@@ -95,9 +95,12 @@ fn command<'a>(alloc: Global) -> Result<Command<'a>, AllocError>
 }
 
 fn line_of<'a>(matches: &ArgMatches<'a>) -> Result<Line<'a>, WordsFail>
-    ensures line { MatchResult result (λ line. matched_line (found_of matches.now) line.stops_on_error ≡ Some (asked_in line))
+    ensures line { MatchResult result
+        (λ line. matched_line (found_of matches.now) line.stops_on_error ≡ Some (asked_in line))
         (λ _. (stop : Bool) → matched_line (found_of matches.now) stop ≡ None) }
-    ensures flag { IfOk result (λ line. (stop : Bool) → one_text (found_of matches.now) (codes "on-error-stop") ≡ Some (if stop then codes "true" else codes "false")
+    ensures flag { IfOk result (λ line. (stop : Bool)
+        → one_text (found_of matches.now) (codes "on-error-stop")
+        ≡ Some (if stop then codes "true" else codes "false")
         → line.stops_on_error ≡ stop) }
 {
     let (Some(store), Some(script)) = (matches.get_str("store"), matches.get_str("script")) else {

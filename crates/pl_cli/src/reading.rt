@@ -1,9 +1,9 @@
 //! How the script is read.
 
-ghost use Rattle.std.specs.Prelude.{◌≡◌, ◌<◌, ◌≤◌, List, ℕ, length, Some, IfOk, IsErrOf, MatchOption, string_bytes};
+ghost use Rattle.std.specs.Prelude.{◌≡◌, ◌<◌, ◌≤◌, ◌++◌, ◌∷◌, [], List, ℕ, length, Some, IfOk, IsErrOf, MatchOption, string_bytes};
 ghost use Rattle.std.specs.Str.{IsUtf8, IsValidUpTo};
 ghost use Rattle.pl_disk.specs.Disk.{Rises};
-ghost use Rattle.pl_cli.specs.Script.{IsFirst, IsFlaw, IsScriptRead, IsTaken};
+ghost use Rattle.pl_cli.specs.Script.{IsFirst, IsFlaw, IsScriptRead, IsTaken, script_text};
 ghost use Rattle.pl_cli.specs.declared.reading.ReadFail.TheVariants.{Fault, Memory};
 
 use memchr::memchr;
@@ -16,8 +16,8 @@ use std::alloc::{AllocError, Global};
 pub enum ReadFail {
     /// A call of the source failed.
     Fault,
-    /// From this offset on it is no script: it isn't UTF-8 there, has a zero byte, or is longer than
-    /// 16 MiB. Offsets are in bytes and count from 0.
+    /// From this offset on it is no script: it isn't UTF-8 there, has a zero byte, or is longer
+    /// than 16 MiB. Offsets are in bytes and count from 0.
     Refused { at: u64 },
     Memory,
 }
@@ -38,9 +38,12 @@ const MAX_CHARACTER: usize = 4;
 
 // All that is left, or more of it than a script has.
 fn take_all<S: Source>(alloc: Global, source: &mut S) -> Result<Vec<u8>, ReadFail>
-    ensures named { (name : List ℕ) → S.named source.old name → S.named source.new name }
-    ensures read { (left : List ℕ) → S.left source.old ≡ Some left → IsTaken left result }
-    ensures fault { IsErrOf result ReadFail.Fault → Rises (S.faults source.old) (S.faults source.new) }
+    ensures attached { (names : List (List ℕ)) → S.attached source.old names
+        → S.attached source.new names }
+    ensures read { (left : List ℕ) → S.left source.old ≡ Some left
+        → IsTaken left (S.left source.new) result }
+    ensures fault { IsErrOf result ReadFail.Fault
+        → Rises (S.faults source.old) (S.faults source.new) }
     ensures faults { S.faults source.old ≤ S.faults source.new }
 {
     let mut text = Vec::new(alloc);
@@ -75,13 +78,27 @@ fn text_end(bytes: &[u8]) -> usize
 
 // The first offset from which on the bytes are no text.
 fn first_flaw(bytes: &[u8]) -> Option<usize>
-    ensures { MatchOption result (IsUtf8 bytes.now × ((k : ℕ) → IsFlaw bytes.now k → ⊥)) (IsFirst (IsFlaw bytes.now)) }
+    ensures { MatchOption result (IsUtf8 bytes.now × ((k : ℕ) → IsFlaw bytes.now k → ⊥))
+        (IsFirst (IsFlaw bytes.now)) }
 {
     let end = text_end(bytes);
     match memchr(0, &bytes[..end]) {
         Some(at) => Some(at),
         None if end < bytes.len() => Some(end),
         None => None,
+    }
+}
+
+/// A byte order mark in UTF-8.
+const MARK: &str = "\u{feff}";
+
+/// A script without the byte order mark that it may begin with.
+pub fn without_mark(script: &str) -> &str
+    ensures { result.now ≡ script_text script.now }
+{
+    match script.strip_prefix(MARK) {
+        Some(rest) => rest,
+        None => script,
     }
 }
 
@@ -92,9 +109,12 @@ pub fn read_script<S: Source>(
     script: &str,
 ) -> Result<String, ReadFail>
     ensures short { IfOk result (λ text. length (string_bytes text) ≤ 16777216) }
-    ensures named { (IsErrOf result ReadFail.Fault → ⊥) → S.named source.new script.now }
-    ensures read { (left : List ℕ) → S.left source.old ≡ Some left → IsScriptRead left result }
-    ensures fault { IsErrOf result ReadFail.Fault → Rises (S.faults source.old) (S.faults source.new) }
+    ensures attached { (names : List (List ℕ)) → S.attached source.old names
+        → S.attached source.new (names ++ script.now ∷ []) }
+    ensures read { (left : List ℕ) → S.left source.old ≡ Some left
+        → IsScriptRead left (S.left source.new) result }
+    ensures fault { IsErrOf result ReadFail.Fault
+        → Rises (S.faults source.old) (S.faults source.new) }
     ensures faults { S.faults source.old ≤ S.faults source.new }
 {
     let Ok(()) = source.attach(script) else {

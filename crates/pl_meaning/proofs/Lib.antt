@@ -1,1 +1,8 @@
+pub mod Along
+pub mod Readings
+pub mod Definitions
+pub mod Plain
+pub mod OwnTexts
 pub mod Scripts
+pub mod Traces
+pub mod Lent

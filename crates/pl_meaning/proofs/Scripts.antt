@@ -1,12 +1,15 @@
 -- A script has exactly one list of readings.
-use Rattle.std.proofs.Common.{◌≡◌, List, [], ◌∷◌, length, refl, sym, ◌∙◌, ap}
+use Rattle.std.proofs.Common.{◌≡◌, List, [], ◌∷◌, length, refl, sym, ◌∙◌, ap, subst}
+use Rattle.std.specs.Prelude.{◌↔◌}
 use Rattle.pl_lex.specs.Characters.{Text}
 use Rattle.pl_lex.specs.Lexemes.{Lexeme, pieces_from}
 use Rattle.pl_lex.specs.declared.token.Piece.{Piece}
-use Rattle.pl_lex.proofs.Whole.{lexemes, all_stand, unique}
-use Rattle.pl_model.specs.declared.reading.Reading.{Reading}
-use Rattle.pl_model.proofs.Readings.{outcome_only, outcome_read}
-use Rattle.pl_meaning.specs.Meaning.{AreRead, Readings, pieces_in, readings_of, script_readings}
+use Rattle.pl_lex.specs.Computed.{lexemes}
+use Rattle.pl_lex.proofs.Lent.{all_stand, unique}
+use Rattle.pl_meaning.specs.declared.reading.Reading.{Reading}
+use Rattle.pl_meaning.proofs.Readings.{outcome_only, outcome_read}
+use Rattle.pl_meaning.specs.Computed.{pieces_in, readings_of, script_readings}
+use Rattle.pl_meaning.specs.Meaning.{AreRead, Readings}
 
 are_read : (text : Text) (pieces : List Piece) → AreRead text pieces (readings_of text pieces)
 are_read text [] = tt
@@ -27,3 +30,6 @@ unfolding script_readings
 readings_only text readings (pieces, (all, stand, cut), read) =
     let same : pieces ≡ pieces_in text = sym cut ∙ ap (λ (xs : List Lexeme). pieces_from (length text) 0 [] xs) (unique all 0 text stand) in
     read_only text pieces readings read ∙ ap (λ (ps : List Piece). readings_of text ps) same
+
+pub one_list : (text : Text) (readings : List Reading) → Readings text readings ↔ (readings ≡ script_readings text)
+one_list text readings = (readings_only text readings, λ is. subst (λ (rs : List Reading). Readings text rs) (sym is) (readings_some text))

@@ -1,7 +1,7 @@
 -- The lines that are printed.
 use Rattle.std.specs.Prelude.{List, ℕ, ◌++◌, codes}
 use Rattle.pl_base.specs.declared.state.State.{State}
-use Rattle.pl_base.specs.declared.state.TheConstants.State.{FEATURE_NOT_SUPPORTED}
+use Rattle.pl_base.specs.States.{FEATURE_NOT_SUPPORTED, DUPLICATE_TABLE, UNDEFINED_TABLE, PROGRAM_LIMIT_EXCEEDED}
 use Rattle.pl_print.specs.Messages.{labelled, condition_name}
 use Rattle.pl_print.specs.Tags.{tag_bytes}
 use Rattle.pl_print.specs.declared.reply.Tag.TheVariants.{CreateTable, Insert}
@@ -22,10 +22,10 @@ abbrev pub not_supported : List ℕ
 not_supported = error_line FEATURE_NOT_SUPPORTED
 
 abbrev pub duplicate_table : List ℕ
-duplicate_table = error_line (record { code = codes "42P07" })
+duplicate_table = error_line DUPLICATE_TABLE
 
 abbrev pub undefined_table : List ℕ
-undefined_table = error_line (record { code = codes "42P01" })
+undefined_table = error_line UNDEFINED_TABLE
 
 abbrev pub limit_exceeded : List ℕ
-limit_exceeded = error_line (record { code = codes "54000" })
+limit_exceeded = error_line PROGRAM_LIMIT_EXCEEDED

@@ -1,7 +1,16 @@
-//! What commands and scripts mean: the events that they have, one after another. The definitions stand
-//! in `specs/`.
+//! What has to be believed: the database and its operations, what a store and a script mean, and
+//! what may be found after a crash. The definitions stand in `specs/`; every contract above cites
+//! them.
 #![tactic(auto)]
 
-mod readings;
+mod definition;
+mod examples;
+mod form;
+mod reading;
+mod script;
 
-pub use readings::one_trace;
+pub use definition::{one_definition, read_definition, texts_mean_alike};
+pub use examples::examples_hold;
+pub use form::{IntegerTable, number_in, table_by};
+pub use reading::{Reading, one_reading, read_piece};
+pub use script::one_trace;

@@ -1,6 +1,9 @@
 pub mod Named
 pub mod Planned
+pub mod Opens
 pub mod Folding
+pub mod Begins
 pub mod Says
+pub mod Ends
 pub mod Scripts
 pub mod Progress

@@ -1,130 +1,171 @@
 -- The pieces of a script so far.
-use Rattle.std.proofs.Common.{◌≡◌, ◌&&◌, ℕ, List, [], ◌∷◌, ◌++◌, cond, Bool, true, false, refl, sym, ◌∙◌, ap, subst, append_assoc}
+use Rattle.std.proofs.Common.{◌≡◌, ◌<◌, ◌≤◌, ◌-◌, ◌^◌, ⊎_elim, arith, ◌&&◌, ◌||◌, ℕ, List, [], ◌∷◌, ◌++◌, Bool, true, false, Result, Ok, refl, sym, ◌∙◌, ap, subst, append_assoc}
+use Rattle.std.specs.Prelude.{if◌then◌else◌}
 use Rattle.std.proofs.lemmas.List.{append-nil}
-use Rattle.pl_disk.specs.Disk.{View, Runs}
-use Rattle.pl_disk.proofs.Moments.{run_weaker, no_run}
+use Rattle.std.proofs.Math.Nat.{eq-or-lt_of_le}
+use Rattle.pl_disk.specs.Disk.{View, Continues, Rises}
+use Rattle.pl_disk.specs.Lent.{no_run}
+use Rattle.pl_keeper.specs.Batches.{Damage}
 use Rattle.pl_lex.specs.Characters.{Text}
-use Rattle.pl_meaning.specs.Meaning.{events, trace, is_failed, has_error, script_readings, Readings}
-use Rattle.pl_meaning.proofs.Scripts.{readings_only}
-use Rattle.pl_model.specs.Covered.{Along, Tells}
-use Rattle.pl_model.specs.Database.{Database}
-use Rattle.pl_model.specs.Trace.{Event, text, last_commit}
-use Rattle.pl_model.specs.declared.reading.Reading.{Reading}
-use Rattle.pl_model.proofs.Along.{longer, text-append, last_commit-append}
+use Rattle.pl_meaning.specs.Computed.{script_readings}
+use Rattle.pl_meaning.specs.Database.{Database}
+use Rattle.pl_meaning.specs.Meaning.{events, trace, Readings}
+use Rattle.pl_meaning.specs.Trace.{Event, is_failed, text, last_commit}
+use Rattle.pl_meaning.specs.declared.reading.Reading.{Reading}
+use Rattle.pl_meaning.proofs.Lent.{text-append, last_commit-append, is_failed-append, both_no, trace-append, trace-one, trace-last, readings_some}
+use Rattle.pl_session.specs.Endings.{RunsAlong, Done, StopsBy}
 use Rattle.pl_session.specs.Scripts.{Left}
-use Rattle.pl_session.proofs.Says.{tells_on}
+use Rattle.pl_session.specs.State.{database_in, IsReady}
+use Rattle.pl_session.specs.Steps.{Idle, StepCause}
+use Rattle.pl_session.specs.declared.halt.Stop.{Stop}
+use Rattle.pl_session.specs.declared.halt.Stop.TheVariants.{Disk, Say, Memory}
+use Rattle.pl_session.specs.declared.state.SessionState.{SessionState}
+use Rattle.pl_session.proofs.Says.{along_on, along_more}
 use Rattle.pl_session.proofs.Scripts.{all_left}
 
--- what holds of the readings of a script holds of any that are
-pub of_script : (script : Text) (P : List Reading → Type 0) → P (script_readings script) → (readings : List Reading) → Readings script readings → P readings
-of_script script P holds readings read = subst P (sym (readings_only script readings read)) holds
-
-later : (s f : Bool) (h : Bool) → (s && f) ≡ false → (s && cond f true h) ≡ (s && h)
-later false f h is = refl
-later true false h is = refl
-later true true h is = absurd (cc)
-
-here : (s f : Bool) (h : Bool) → (s && f) ≡ true → (s && cond f true h) ≡ true
-here true true h is = refl
-here true false h is = absurd (cc)
-here false f h is = absurd (cc)
-
--- between two pieces: those before are done, from one database to another
+-- Between two pieces: the first ones are done, from one database to another, and no error of theirs ends the script.
 pub record Progress (a now : View) (stops : Bool) (script : Text) (at : ℕ) (db current : Database) : Type 0 where
+  pub first : List Reading
   pub rest : List Reading
+  pub all : script_readings script ≡ first ++ rest
   pub left : Left script at rest
-  pub done : List Event
-  pub split : trace stops (script_readings script) db ≡ done ++ trace stops rest current
-  pub errors : (stops && has_error (script_readings script) db) ≡ (stops && has_error rest current)
-  pub moments : Runs a now (Tells a.printed done db)
-  pub printed : a.told → now.printed ≡ a.printed ++ text done
-  pub reached : current ≡ last_commit done db
+  pub goes_on : (stops && is_failed (trace stops first db)) ≡ false
+  pub moments : RunsAlong a now (trace stops first db) db
+  pub printed : a.told → now.printed ≡ a.printed ++ text (trace stops first db)
+  pub reached : current ≡ last_commit (trace stops first db) db
 
 pub no_piece : (a : View) (stops : Bool) (script : Text) (db : Database) → Progress a a stops script 0 db db
 no_piece a stops script db = record {
+  first = [];
   rest = script_readings script;
+  all = refl;
   left = all_left script;
-  done = [];
-  split = refl;
-  errors = refl;
+  goes_on = none stops;
   moments = no_run a _;
   printed = λ told. sym (append-nil a.printed);
   reached = refl;
 }
+  where
+    none : (s : Bool) → (s && false) ≡ false
+    none true = refl
+    none false = refl
 
 module _ (a b : View) (stops : Bool) (script : Text) (at : ℕ) (db current : Database) (was : Progress a b stops script at db current) where
-  -- nothing is left
-  whole : was.rest ≡ [] → trace stops (script_readings script) db ≡ was.done
-  whole none = was.split ∙ ap (λ (rs : List Reading). was.done ++ trace stops rs current) none ∙ append-nil was.done
+  abbrev whole : List Event
+  whole = trace stops (script_readings script) db
 
-  pub moments_whole : was.rest ≡ [] → Runs a b (Tells a.printed (trace stops (script_readings script) db) db)
-  moments_whole none = subst (λ (t : List Event). Runs a b (Tells a.printed t db)) (sym (whole none)) was.moments
+  abbrev done : List Event
+  done = trace stops was.first db
 
-  pub printed_whole : was.rest ≡ [] → a.told → b.printed ≡ a.printed ++ text (trace stops (script_readings script) db)
-  printed_whole none told = was.printed told ∙ ap (λ (t : List Event). a.printed ++ text t) (sym (whole none))
-
-  pub reached_whole : was.rest ≡ [] → current ≡ last_commit (trace stops (script_readings script) db) db
-  reached_whole none = was.reached ∙ ap (λ (t : List Event). last_commit t db) (sym (whole none))
-
-  pub no_error : was.rest ≡ [] → (stops && has_error (script_readings script) db) ≡ false
-  no_error none = was.errors ∙ ap (λ (rs : List Reading). stops && has_error rs current) none ∙ none_of stops
-    where
-      none_of : (s : Bool) → (s && false) ≡ false
-      none_of true = refl
-      none_of false = refl
+  split : trace stops (script_readings script) db ≡ trace stops was.first db ++ trace stops was.rest current
+  split = ap (λ (rs : List Reading). trace stops rs db) was.all ∙ trace-append stops was.first was.rest db was.goes_on
+      ∙ ap (λ (e : Database). done ++ trace stops was.rest e) (sym was.reached)
 
   -- the session stopped before a piece was read
-  pub moments_so_far : Runs a b (Tells a.printed (trace stops (script_readings script) db) db)
-  moments_so_far = run_weaker a b _ _ was.moments
-      (λ told p c tells. (tells.0, tells.1, subst (λ (t : List Event). Along t tells.0 c db) (sym was.split) (longer was.done (trace stops was.rest current) tells.0 c db tells.2)))
+  pub moments_so_far : RunsAlong a b (trace stops (script_readings script) db) db
+  moments_so_far = subst (λ (t : List Event). RunsAlong a b t db) (sym split) (along_more a b done (trace stops was.rest current) db was.moments)
 
-  module _ (d : View) (reading : Reading) (others : List Reading) (next : was.rest ≡ reading ∷ others) (run : Runs b d (Tells b.printed (events reading current) current)) where
+  -- and then, or where nothing of the next piece was done, a whole number of them is done
+  pub so_many : (d : View) (state : SessionState) → IsReady b state → database_in state ≡ current → (a.told → b.told) → Idle b d → StopsBy a d script stops db Memory
+  so_many d state ready is told idle = (
+    done,
+    (was.first, was.rest, subst (λ (rs : List Reading). Readings script rs) was.all (readings_some script), refl),
+    record {
+      printed = λ t. idle.printed (told t) ∙ was.printed t;
+      opens_to = λ t c left. ready.opens_to (told t) c (idle.images (told t) c left) ∙ ap (λ (e : Database). let r : Result Database Damage = Ok e in r) (is ∙ was.reached);
+    },
+  )
+
+  -- nothing is left
+  module _ (none : was.rest ≡ []) where
+    all_done : trace stops (script_readings script) db ≡ trace stops was.first db
+    all_done = split ∙ ap (λ (rs : List Reading). done ++ trace stops rs current) none ∙ append-nil done
+
+    pub done_whole : (before after : SessionState) → database_in before ≡ db → database_in after ≡ current → IsReady b after → Done a b before after (trace stops (script_readings script) db)
+    done_whole before after is_before is_after ready = record {
+      ready = ready;
+      database = is_after ∙ was.reached ∙ ap (λ (t : List Event). last_commit t db) (sym all_done) ∙ ap (λ (e : Database). last_commit whole e) (sym is_before);
+      printed = λ told. was.printed told ∙ ap (λ (t : List Event). a.printed ++ text t) (sym all_done);
+    }
+
+    pub no_error : (stops && is_failed (trace stops (script_readings script) db)) ≡ false
+    no_error = ap (λ (t : List Event). stops && is_failed t) all_done ∙ was.goes_on
+
+  module _ (d : View) (reading : Reading) (others : List Reading) (next : was.rest ≡ reading ∷ others) (run : RunsAlong b d (events reading current) current) where
     abbrev now : List Event
     now = events reading current
 
+    abbrev first : List Reading
+    first = was.first ++ reading ∷ []
+
     abbrev more : List Event
-    more = cond (stops && is_failed now) [] (trace stops others (last_commit now current))
+    more = if stops && is_failed now then [] else trace stops others (last_commit now current)
 
-    split_more : trace stops (script_readings script) db ≡ (was.done ++ now) ++ more
-    split_more = was.split ∙ ap (λ (rs : List Reading). was.done ++ trace stops rs current) next ∙ sym (append_assoc was.done now more)
+    one_more : trace stops (was.first ++ reading ∷ []) db ≡ done ++ now
+    one_more = trace-append stops was.first (reading ∷ []) db was.goes_on ∙ ap (λ (e : Database). done ++ trace stops (reading ∷ []) e) (sym was.reached)
+        ∙ ap (λ (t : List Event). done ++ t) (trace-one stops reading current)
 
-    runs_more : Runs a d (Tells a.printed (was.done ++ now) db)
-    runs_more = tells_on a b d was.done now db was.printed was.moments (subst (λ (e : Database). Runs b d (Tells b.printed now e)) was.reached run)
+    all_more : script_readings script ≡ (was.first ++ reading ∷ []) ++ others
+    all_more = was.all ∙ ap (λ (rs : List Reading). was.first ++ rs) next ∙ sym (append_assoc was.first (reading ∷ []) others)
 
-    printed_more : (a.told → d.printed ≡ b.printed ++ text now) → a.told → d.printed ≡ a.printed ++ text (was.done ++ now)
-    printed_more said told = said told ∙ ap (λ (l : List ℕ). l ++ text now) (was.printed told) ∙ append_assoc a.printed (text was.done) (text now)
-        ∙ ap (λ (l : List ℕ). a.printed ++ l) (sym (text-append was.done now))
+    runs_more : RunsAlong a d (done ++ now) db
+    runs_more = along_on a b d done now db was.printed was.moments (subst (λ (e : Database). RunsAlong b d now e) was.reached run)
 
-    reached_more : (after : Database) → after ≡ last_commit now current → after ≡ last_commit (was.done ++ now) db
-    reached_more after is = is ∙ ap (λ (e : Database). last_commit now e) was.reached ∙ sym (last_commit-append was.done now db)
+    printed_more : (a.told → d.printed ≡ b.printed ++ text now) → a.told → d.printed ≡ a.printed ++ text (done ++ now)
+    printed_more said told = said told ∙ ap (λ (l : List ℕ). l ++ text now) (was.printed told) ∙ append_assoc a.printed (text done) (text now)
+        ∙ ap (λ (l : List ℕ). a.printed ++ l) (sym (text-append done now))
+
+    reached_more : (after : Database) → after ≡ last_commit now current → after ≡ last_commit (done ++ now) db
+    reached_more after is = is ∙ ap (λ (e : Database). last_commit now e) was.reached ∙ sym (last_commit-append done now db)
 
     -- one piece more
     pub one_piece : (place : ℕ) (after : Database) → Left script place others → (stops && is_failed now) ≡ false → (a.told → d.printed ≡ b.printed ++ text now) → after ≡ last_commit now current → Progress a d stops script place db after
     one_piece place after left goes_on said is = record {
+      first = first;
       rest = others;
+      all = all_more;
       left = left;
-      done = was.done ++ now;
-      split = split_more ∙ ap (λ (c : Bool). (was.done ++ now) ++ cond c [] (trace stops others (last_commit now current))) goes_on ∙ ap (λ (e : Database). (was.done ++ now) ++ trace stops others e) (sym is);
-      errors = was.errors ∙ ap (λ (rs : List Reading). stops && has_error rs current) next ∙ later stops (is_failed now) (has_error others (last_commit now current)) goes_on ∙ ap (λ (e : Database). stops && has_error others e) (sym is);
-      moments = runs_more;
-      printed = printed_more said;
-      reached = reached_more after is;
+      goes_on = ap (λ (t : List Event). stops && is_failed t) one_more ∙ ap (λ (f : Bool). stops && f) (is_failed-append done now) ∙ both_no stops (is_failed done) (is_failed now) was.goes_on goes_on;
+      moments = subst (λ (t : List Event). RunsAlong a d t db) (sym one_more) runs_more;
+      printed = λ told. printed_more said told ∙ ap (λ (t : List Event). a.printed ++ text t) (sym one_more);
+      reached = reached_more after is ∙ ap (λ (t : List Event). last_commit t db) (sym one_more);
     }
 
     -- a piece at which the session stopped
-    pub stopped : Runs a d (Tells a.printed (trace stops (script_readings script) db) db)
-    stopped = run_weaker a d _ _ runs_more
-        (λ told p c tells. (tells.0, tells.1, subst (λ (t : List Event). Along t tells.0 c db) (sym split_more) (longer (was.done ++ now) more tells.0 c db tells.2)))
+    pub stopped : RunsAlong a d (trace stops (script_readings script) db) db
+    stopped = subst (λ (u : List Event). RunsAlong a d u db) (append_assoc done now more ∙ sym tail) (along_more a d (done ++ now) more db runs_more)
+      where
+        tail : trace stops (script_readings script) db ≡ done ++ (now ++ more)
+        tail = split ∙ ap (λ (rs : List Reading). done ++ trace stops rs current) next
 
     -- a piece at which the script ends, since it got an error
-    ends : (stops && is_failed now) ≡ true → trace stops (script_readings script) db ≡ was.done ++ now
-    ends error = split_more ∙ ap (λ (c : Bool). (was.done ++ now) ++ cond c [] (trace stops others (last_commit now current))) error ∙ append-nil (was.done ++ now)
+    module _ (error : (stops && is_failed now) ≡ true) where
+      ends : trace stops (script_readings script) db ≡ done ++ now
+      ends = split ∙ ap (λ (rs : List Reading). done ++ trace stops rs current) next ∙ ap (λ (t : List Event). done ++ t) (trace-last stops reading others current error)
 
-    pub printed_at_error : (stops && is_failed now) ≡ true → (a.told → d.printed ≡ b.printed ++ text now) → a.told → d.printed ≡ a.printed ++ text (trace stops (script_readings script) db)
-    printed_at_error error said told = printed_more said told ∙ ap (λ (t : List Event). a.printed ++ text t) (sym (ends error))
+      pub done_at_error : (before after : SessionState) → database_in before ≡ db → database_in after ≡ last_commit now current → IsReady d after → (a.told → d.printed ≡ b.printed ++ text now) → Done a d before after (trace stops (script_readings script) db)
+      done_at_error before after is_before is_after ready said = record {
+        ready = ready;
+        database = reached_more (database_in after) is_after ∙ ap (λ (t : List Event). last_commit t db) (sym ends) ∙ ap (λ (e : Database). last_commit whole e) (sym is_before);
+        printed = λ told. printed_more said told ∙ ap (λ (t : List Event). a.printed ++ text t) (sym ends);
+      }
 
-    pub reached_at_error : (after : Database) → (stops && is_failed now) ≡ true → after ≡ last_commit now current → after ≡ last_commit (trace stops (script_readings script) db) db
-    reached_at_error after error is = reached_more after is ∙ ap (λ (t : List Event). last_commit t db) (sym (ends error))
+      pub at_error : (stops && is_failed (trace stops (script_readings script) db)) ≡ true
+      at_error = ap (λ (t : List Event). stops && is_failed t) ends ∙ ap (λ (f : Bool). stops && f) (is_failed-append done now) ∙ either stops (is_failed done) (is_failed now) error
+        where
+          either : (s f g : Bool) → (s && g) ≡ true → (s && (f || g)) ≡ true
+          either true true g is = refl
+          either true false g is = is
+          either false f g is = absurd (cc)
 
-    pub at_error : (stops && is_failed now) ≡ true → (stops && has_error (script_readings script) db) ≡ true
-    at_error error = was.errors ∙ ap (λ (rs : List Reading). stops && has_error rs current) next ∙ here stops (is_failed now) (has_error others (last_commit now current)) error
+-- a count that rose later rose since an earlier time
+rises_since : (a b d : ℕ) → a ≤ b → b ≤ d → Rises b d → Rises a d
+rises_since a b d h k rises below =
+    ⊎_elim (λ same. let low : b < 2 ^ 64 - 1 = omega (arith, same, below) in let rose = rises low in omega (arith, same, rose)) (λ less. omega (arith, less, k)) (eq-or-lt_of_le h)
+
+-- why a piece stopped is why the script did
+pub stops_by : (a b d : View) (stops : Bool) (script : Text) (at : ℕ) (db current : Database) (was : Progress a b stops script at db current) (state : SessionState) (why : Stop)
+    → IsReady b state → database_in state ≡ current → Continues b d → StepCause b d why → StopsBy a d script stops db why
+stops_by a b d stops script at db current was state Disk ready is on cause = rises_since a.disk_faults b.disk_faults d.disk_faults was.moments.continues.disk_faults on.disk_faults cause
+stops_by a b d stops script at db current was state Say ready is on cause = rises_since a.say_faults b.say_faults d.say_faults was.moments.continues.say_faults on.say_faults cause
+stops_by a b d stops script at db current was state Memory ready is on cause = so_many a b stops script at db current was d state ready is (λ t. was.moments.continues.told t) cause

@@ -1,50 +1,63 @@
 -- A commit and a reply, along their events.
-use Rattle.std.proofs.Common.{◌≡◌, inl, inr, ⊎_elim, ℕ, List, [], ◌∷◌, ◌++◌, Some, Ok, Err, OnOk, Result, refl, sym, ◌∙◌, ap, append_assoc}
+use Rattle.std.proofs.Common.{◌≡◌, inl, inr, ⊎_elim, ℕ, List, [], ◌∷◌, ◌++◌, Some, Ok, Result, refl, sym, ◌∙◌, ap, append_assoc}
 use Rattle.std.proofs.lemmas.List.{append-nil}
 use Rattle.pl_base.specs.Image.{Image}
 use Rattle.pl_base.specs.declared.operation.Op.{Op}
 use Rattle.pl_disk.specs.Disk.{View, Runs, Says}
-use Rattle.pl_disk.specs.declared.device.Failed.{Failed}
-use Rattle.pl_disk.proofs.Moments.{runs_on, run_weaker, from_say, no_run}
-use Rattle.pl_keeper.specs.Store.{IsStore, Either}
-use Rattle.pl_model.specs.Covered.{Tells}
-use Rattle.pl_model.specs.Database.{Database}
-use Rattle.pl_model.specs.Opening.{opens}
-use Rattle.pl_model.specs.Operation.{apply}
-use Rattle.pl_model.specs.Trace.{Event, Committed, Said, text, last_commit}
-use Rattle.pl_model.proofs.Along.{longer, after}
+use Rattle.pl_disk.specs.declared.device.Failed.{Failed as Fault}
+use Rattle.pl_disk.specs.Lent.{runs_on, run_weaker, from_say, no_run}
+use Rattle.pl_keeper.specs.Store.{Committing}
+use Rattle.pl_meaning.specs.Covered.{AlongFrom}
+use Rattle.pl_meaning.specs.Database.{Database}
+use Rattle.pl_meaning.specs.Operation.{apply}
+use Rattle.pl_meaning.specs.Opening.{opens}
+use Rattle.pl_meaning.specs.Trace.{Event, Committed, Said, text, last_commit}
+use Rattle.pl_meaning.proofs.Lent.{longer, after}
+use Rattle.pl_session.specs.Endings.{RunsAlong}
+use Rattle.pl_session.specs.Replies.{line_of, event_of}
+use Rattle.pl_session.specs.State.{Stores}
+use Rattle.pl_session.specs.Steps.{AllOpen, Idle}
+use Rattle.pl_session.specs.declared.reply.Reply.{Reply}
+use Rattle.pl_session.specs.declared.reply.Reply.TheVariants as reply
+use Rattle.pl_session.proofs.Opens.{leads_on, opens_by}
 
-module _ (a b : View) (keeper : ℕ) (op : Op) (reply : List ℕ) (db next : Database) (store : a.told → IsStore a.may_leave keeper db) (done : apply op db ≡ Some next) (first : Runs a b (Either a keeper op)) where
+module _ (a b : View) (keeper : ℕ) (op : Op) (reply : List ℕ) (db next : Database) (store : a.told → Stores a.may_leave keeper db) (done : apply op db ≡ Some next) (first : Runs a b (λ p c. (p ≡ a.printed) × Committing a keeper op c)) where
   abbrev both : List Event
   both = Committed next ∷ Said reply ∷ []
 
-  pub commit_tells : Runs a b (Tells a.printed (Committed next ∷ Said reply ∷ []) db)
-  commit_tells = run_weaker a b _ (Tells a.printed both db) first
-      (λ told p c is. ([], is.0 ∙ sym (append-nil a.printed), ⊎_elim (λ old. inl (refl, old)) (λ now. inr (inl ((reply, refl), now))) (is.1 db next (store told) done)))
+  pub commit_along : RunsAlong a b (Committed next ∷ Said reply ∷ []) db
+  commit_along = run_weaker a b _ (AlongFrom a.printed both db) first
+      (λ told p c is. let s = store told in (
+        [],
+        is.0 ∙ sym (append-nil a.printed),
+        ⊎_elim (λ old. inl (refl, opens_by c s.list db old s.leads)) (λ now. inr (inl ((reply, refl), opens_by c (s.list ++ (keeper, op) ∷ []) next now (leads_on s.list keeper op db next s.leads done)))) (is.1.batches s.list s.store),
+      ))
 
-  pub said_after : (d : View) (result : Result Unit Failed) → (a.told → b.printed ≡ a.printed) → (a.told → (c : Image) → b.may_leave c → opens c ≡ Ok next) → Says reply b d result → Runs a d (Tells a.printed (Committed next ∷ Said reply ∷ []) db)
+  pub said_after : (d : View) (result : Result Unit Fault) → (a.told → b.printed ≡ a.printed) → (a.told → (c : Image) → b.may_leave c → opens c ≡ Ok next) → Says reply b d result → RunsAlong a d (Committed next ∷ Said reply ∷ []) db
   said_after d result printed opens_to says =
-      runs_on a b d _ _ (Tells a.printed both db) commit_tells (from_say reply b d result says) (λ told p c is. is)
+      runs_on a b d _ _ (AlongFrom a.printed both db) commit_along (from_say reply b d result says) (λ told p c is. is)
       (λ told p c is. (is.0.0, is.0.2 ∙ ap (λ (l : List ℕ). l ++ is.0.0) (printed told), inr (inl (is.0.1, opens_to told c is.1))))
 
-pub reply_tells : {T : Type 0} (a d : View) (reply : List ℕ) (db : Database) (result : Result T Failed) → (a.told → (c : Image) → a.may_leave c → opens c ≡ Ok db) → Says reply a d result → Runs a d (Tells a.printed (Said reply ∷ []) db)
-reply_tells a d reply db result opens_to says = run_weaker a d _ (Tells a.printed (Said reply ∷ []) db) (from_say reply a d result says)
+pub answer_along : {T : Type 0} (a d : View) (r : Reply) (db : Database) (result : Result T Fault) → AllOpen a db → Says (line_of r) a d result → RunsAlong a d (event_of r ∷ []) db
+answer_along a d (reply.Done tag) db result opens_to says = run_weaker a d _ (AlongFrom a.printed (event_of (reply.Done tag) ∷ []) db) (from_say (line_of (reply.Done tag)) a d result says)
+    (λ told p c is. (is.0.0, is.0.2, inl (is.0.1, opens_to told c is.1)))
+answer_along a d (reply.Fails state) db result opens_to says = run_weaker a d _ (AlongFrom a.printed (event_of (reply.Fails state) ∷ []) db) (from_say (line_of (reply.Fails state)) a d result says)
     (λ told p c is. (is.0.0, is.0.2, inl (is.0.1, opens_to told c is.1)))
 
-pub nothing_tells : (a : View) (trace : List Event) (db : Database) → Runs a a (Tells a.printed trace db)
-nothing_tells a trace db = no_run a (Tells a.printed trace db)
+pub nothing_along : (a : View) (events : List Event) (db : Database) → RunsAlong a a events db
+nothing_along a events db = no_run a (AlongFrom a.printed events db)
 
 -- one run after another
-pub tells_on : (a b d : View) (trace more : List Event) (db : Database) → (a.told → b.printed ≡ a.printed ++ text trace)
-    → Runs a b (Tells a.printed trace db) → Runs b d (Tells b.printed more (last_commit trace db)) → Runs a d (Tells a.printed (trace ++ more) db)
-tells_on a b d trace more db printed first second =
-    runs_on a b d _ _ (Tells a.printed (trace ++ more) db) first second (λ told p c is. (is.0, is.1, longer trace more is.0 c db is.2))
-    (λ told p c is. (text trace ++ is.0, is.1 ∙ ap (λ (l : List ℕ). l ++ is.0) (printed told) ∙ append_assoc a.printed (text trace) is.0, after trace more is.0 c db is.2))
+pub along_on : (a b d : View) (events more : List Event) (db : Database) → (a.told → b.printed ≡ a.printed ++ text events)
+    → RunsAlong a b events db → RunsAlong b d more (last_commit events db) → RunsAlong a d (events ++ more) db
+along_on a b d events more db printed first second =
+    runs_on a b d _ _ (AlongFrom a.printed (events ++ more) db) first second (λ told p c is. (is.0, is.1, longer events more is.0 c db is.2))
+    (λ told p c is. (text events ++ is.0, is.1 ∙ ap (λ (l : List ℕ). l ++ is.0) (printed told) ∙ append_assoc a.printed (text events) is.0, after events more is.0 c db is.2))
 
-pub on_ok : {T E X : Type 0} (r : Result T E) → X → OnOk r X
-on_ok (Ok x) is = is
-on_ok (Err e) is = tt
+-- a run along some events goes along more
+pub along_more : (a b : View) (events more : List Event) (db : Database) → RunsAlong a b events db → RunsAlong a b (events ++ more) db
+along_more a b events more db run = run_weaker a b _ (AlongFrom a.printed (events ++ more) db) run (λ told p c is. (is.0, is.1, longer events more is.0 c db is.2))
 
-pub on_ok_map : {T E X Y : Type 0} (r : Result T E) → (X → Y) → OnOk r X → OnOk r Y
-on_ok_map (Ok x) f is = f is
-on_ok_map (Err e) f is = tt
+-- nothing was done
+pub idle_same : {H : Type 0} (view : H → View) (old new : H) → new ≡ old → Idle (view old) (view new)
+idle_same view old new same = rw same (record { printed = λ told. refl; images = λ told c left. left })

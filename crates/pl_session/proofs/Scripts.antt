@@ -3,12 +3,12 @@ use Rattle.std.proofs.Common.{◌≡◌, ◌≤◌, ◌<◌, ℕ, zero, suc, ◌
 use Rattle.pl_lex.specs.Characters.{Text}
 use Rattle.pl_lex.specs.Lexemes.{Lexeme, IsNext, Cuts, next_command}
 use Rattle.pl_lex.specs.declared.token.Piece.{Piece}
-use Rattle.pl_lex.proofs.Joins.{commands_are_cut}
-use Rattle.pl_lex.proofs.Whole.{lexemes, lexemes_nil, all_stand, unique}
-use Rattle.pl_model.specs.Reading.{IsPieceRead, piece_reading}
-use Rattle.pl_model.specs.declared.reading.Reading.{Reading}
-use Rattle.pl_model.proofs.Readings.{outcome_only}
-use Rattle.pl_meaning.specs.Meaning.{pieces_in, readings_of, script_readings}
+use Rattle.pl_lex.specs.Computed.{lexemes}
+use Rattle.pl_lex.proofs.Lent.{lexemes_nil, all_stand, unique, commands_are_cut}
+use Rattle.pl_meaning.specs.Reading.{IsPieceRead}
+use Rattle.pl_meaning.specs.declared.reading.Reading.{Reading}
+use Rattle.pl_meaning.proofs.Lent.{outcome_only}
+use Rattle.pl_meaning.specs.Computed.{piece_reading, pieces_in, readings_of, script_readings}
 use Rattle.pl_session.specs.Scripts.{Left, IsNextReading}
 use Rattle.pl_session.specs.declared.script.Next.{Next}
 

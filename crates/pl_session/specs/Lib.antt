@@ -3,4 +3,9 @@ pub mod Tables
 pub mod Replies
 pub mod Plans
 pub mod State
+pub mod Starts
+pub mod Endings
+pub mod Steps
 pub mod Scripts
+pub mod AreaB
+pub mod Lent

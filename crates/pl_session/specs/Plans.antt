@@ -1,29 +1,30 @@
 -- What a plan says of the events of a reading.
 use Rattle.std.specs.Prelude.{◌≡◌, List, [], ◌∷◌}
-use Rattle.pl_model.specs.Database.{Database}
-use Rattle.pl_model.specs.Operation.{apply}
-use Rattle.pl_model.specs.Spelling.{HasSpelling}
-use Rattle.pl_model.specs.Trace.{Event, Said}
-use Rattle.pl_model.specs.declared.reading.Reading.{Reading}
+use Rattle.pl_base.specs.declared.operation.Op.{Op}
+use Rattle.pl_codec.specs.Spelling.{HasSpelling}
+use Rattle.pl_print.specs.Tags.{tag_bytes}
+use Rattle.pl_meaning.specs.Database.{Database}
 use Rattle.pl_meaning.specs.Meaning.{events, commits_or}
-use Rattle.pl_session.specs.Replies.{line_of}
+use Rattle.pl_meaning.specs.Operation.{apply}
+use Rattle.pl_meaning.specs.Replies.{error_line}
+use Rattle.pl_meaning.specs.Trace.{Event, Failed}
+use Rattle.pl_meaning.specs.declared.reading.Reading.{Reading}
+use Rattle.pl_session.specs.Tables.{changed}
 use Rattle.pl_session.specs.declared.plan.Plan.{Plan}
-use Rattle.pl_session.specs.declared.plan.Plan.TheVariants.{Nothing, Says, Tries}
+use Rattle.pl_session.specs.declared.plan.Plan.TheVariants.{Nothing, Fails, Tries}
+use Rattle.pl_session.specs.declared.tables.Change.{Change}
+
+-- the operation can be stored, and makes this change
+pub record Spells (op : Op) (change : Change) (db : Database) : Type 0 where
+  pub spelling : HasSpelling op
+  pub same : changed change db ≡ apply op db
 
 -- the plan gives these events
-abbrev pub Gives : List Event → Database → Plan → Type 0
-Gives trace db Nothing = trace ≡ []
-Gives trace db (Says reply) = trace ≡ Said (line_of reply) ∷ []
-Gives trace db (Tries op reply error) = trace ≡ commits_or (line_of reply) (line_of error) (apply op db)
-
--- its operation can be stored
-abbrev pub CanStore : Plan → Type 0
-CanStore Nothing = Unit {0}
-CanStore (Says reply) = Unit {0}
-CanStore (Tries op reply error) = HasSpelling op
-
 abbrev pub Plans : List Event → Database → Plan → Type 0
-Plans trace db plan = Gives trace db plan × CanStore plan
+Plans trace db Nothing = trace ≡ []
+Plans trace db (Fails state) = trace ≡ Failed (error_line state) ∷ []
+Plans trace db (Tries op change reply error) =
+    (trace ≡ commits_or (tag_bytes reply) (error_line error) (changed change db)) × Spells op change db
 
 abbrev pub IsPlan : Reading → Database → Plan → Type 0
 IsPlan reading db plan = Plans (events reading db) db plan

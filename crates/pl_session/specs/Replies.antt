@@ -2,9 +2,14 @@
 use Rattle.std.specs.Prelude.{ℕ, List}
 use Rattle.pl_print.specs.Tags.{tag_bytes}
 use Rattle.pl_meaning.specs.Replies.{error_line}
+use Rattle.pl_meaning.specs.Trace.{Event, Said, Failed}
 use Rattle.pl_session.specs.declared.reply.Reply.{Reply}
-use Rattle.pl_session.specs.declared.reply.Reply.TheVariants.{Done, Fails}
+use Rattle.pl_session.specs.declared.reply.Reply.TheVariants as reply
 
 abbrev pub line_of : Reply → List ℕ
-line_of (Done tag) = tag_bytes tag
-line_of (Fails state) = error_line state
+line_of (reply.Done tag) = tag_bytes tag
+line_of (reply.Fails state) = error_line state
+
+abbrev pub event_of : Reply → Event
+event_of (reply.Done tag) = Said (tag_bytes tag)
+event_of (reply.Fails state) = Failed (error_line state)

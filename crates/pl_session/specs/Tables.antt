@@ -1,7 +1,10 @@
 -- What the tables in memory stand for.
 use Rattle.std.specs.Prelude.{◌≡◌, ℕ, List, [], ◌∷◌, map, Bool, true, false, Option, Some, None}
 use Rattle.pl_base.specs.declared.types.Ty.TheVariants as type
-use Rattle.pl_model.specs.Database.{Column, Database, Object, TableObject, Table as TableValue}
+use Rattle.pl_meaning.specs.Database.{Column, Database, Object, TableObject, Table as TableValue}
+use Rattle.pl_meaning.specs.Operation.{apply, define_by}
+use Rattle.pl_session.specs.declared.tables.Change.{Change}
+use Rattle.pl_session.specs.declared.tables.Change.TheVariants.{Create, Apply}
 use Rattle.pl_session.specs.declared.tables.Table.{Table}
 
 -- one column of the type integer
@@ -21,3 +24,8 @@ database_of tables = map object_of tables
 abbrev pub Becomes : {A : Type 0} → Bool → (old new : A) → (wanted : Option A) → Type 0
 Becomes true old new wanted = wanted ≡ Some new
 Becomes false old new wanted = (wanted ≡ None) × (new ≡ old)
+
+-- the database after a change; None where it can't be made
+abbrev pub changed : Change → Database → Option Database
+changed (Create made) db = define_by (Some made) db
+changed (Apply op) db = apply op db

@@ -79,7 +79,7 @@ pub enum Halt {
 #[derive(Clone, Copy, Debug, PartialEq, Eq)]
 pub enum Outcome {
     Fine,
-    /// It was answered with an error, and changed nothing.
+    /// A command was answered with an error, and changed nothing. It is the last that ran.
     Errored,
 }
 

@@ -1,20 +1,19 @@
 //! What a command asks for.
 
 ghost use Rattle.std.specs.Prelude.{◌≡◌, IfOk, true};
-ghost use Rattle.pl_model.specs.Definition.{definition_in};
-ghost use Rattle.pl_model.specs.Form.{number_in};
-ghost use Rattle.pl_model.specs.Database.{next_of};
-ghost use Rattle.pl_model.specs.Spelling.{is_table_name};
+ghost use Rattle.pl_codec.specs.Spelling.{is_table_name};
+ghost use Rattle.pl_meaning.specs.Computed.{CommandMeansAlike, MeansAlike, definition_in};
+ghost use Rattle.pl_meaning.specs.Database.{next_of};
+ghost use Rattle.pl_meaning.specs.Form.{number_in, table_by};
 ghost use Rattle.pl_meaning.specs.Meaning.{command_events, creates, inserts, inserts_at};
 ghost use Rattle.pl_session.specs.Plans.{Plans, IsPlan};
 ghost use Rattle.pl_session.specs.Tables.{database_of};
 
-use crate::reply::Reply;
-use crate::tables::Tables;
+use crate::tables::{Change, Tables};
 use pl_base::{List, Memory, Name, Op, State, Txt, Value};
-use pl_model::{Reading, number_in, read_definition};
+use pl_meaning::{Reading, number_in, table_by};
 use pl_print::Tag;
-use pl_tree::{Command, Insert};
+use pl_tree::{Command, Definition, Insert};
 use std::alloc::Global;
 
 /// What a piece of a script asks for.
@@ -22,54 +21,77 @@ use std::alloc::Global;
 pub enum Plan {
     /// There is no command.
     Nothing,
-    /// The answer alone.
-    Says(Reply),
-    /// The operation is done and committed and then the reply given, or where it doesn't apply the
-    /// error.
-    Tries { op: Op, reply: Reply, error: Reply },
+    /// The error alone.
+    Fails(State),
+    /// The change is made, its operation committed, and then the reply given; or where it can't be
+    /// made, the error.
+    Tries {
+        op: Op,
+        change: Change,
+        reply: Tag,
+        error: State,
+    },
 }
 
 /// What a piece of a script asks for by what it is read as, over these tables.
 pub fn plan_of(alloc: Global, tables: &Tables, reading: Reading) -> Result<Plan, Memory>
+    requires alike { MeansAlike reading }
     ensures { IfOk result (IsPlan reading (database_of tables.now.list.items)) }
 {
     match reading {
         Reading::Nothing => Ok(Plan::Nothing),
-        Reading::Refused(state) => Ok(Plan::Says(Reply::Fails(state))),
-        Reading::Spelled(command) => plan_command(alloc, tables, &command),
+        Reading::Refused(state) => Ok(Plan::Fails(state)),
+        Reading::Spelled(command) => plan_command(alloc, tables, command),
     }
 }
 
-fn plan_command(alloc: Global, tables: &Tables, command: &Command) -> Result<Plan, Memory>
-    ensures { IfOk result (Plans (command_events command.now (database_of tables.now.list.items)) (database_of tables.now.list.items)) }
+fn plan_command(alloc: Global, tables: &Tables, command: Command) -> Result<Plan, Memory>
+    requires alike { CommandMeansAlike command }
+    ensures { IfOk result (Plans (command_events command (database_of tables.now.list.items))
+        (database_of tables.now.list.items)) }
 {
     match command {
-        Command::Define { source, .. } => plan_create(alloc, tables, source),
-        Command::Insert(insert) => plan_insert(alloc, tables, insert),
-        _ => Ok(Plan::Says(Reply::Fails(State::FEATURE_NOT_SUPPORTED))),
+        Command::Define { definition, source } => Ok(plan_create(tables, definition, source)),
+        Command::Insert(insert) => plan_insert(alloc, tables, &insert),
+        Command::Query(_)
+        | Command::Update(_)
+        | Command::Delete(_)
+        | Command::Do { .. }
+        | Command::Call { .. }
+        | Command::Begin
+        | Command::StartTransaction
+        | Command::Commit
+        | Command::Rollback
+        | Command::Savepoint(_)
+        | Command::Release(_)
+        | Command::RollbackTo(_) => Ok(Plan::Fails(State::FEATURE_NOT_SUPPORTED)),
     }
 }
 
-// The definition that the text is.
-fn plan_create(alloc: Global, tables: &Tables, text: &Txt) -> Result<Plan, Memory>
-    ensures { IfOk result (Plans (creates (definition_in text.now) (database_of tables.now.list.items)) (database_of tables.now.list.items)) }
+// The table that the definition makes, which is stored as its text.
+fn plan_create(tables: &Tables, definition: Definition, source: Txt) -> Plan
+    requires alike { definition_in source ≡ table_by definition source }
+    ensures { Plans (creates (table_by definition source) (database_of tables.now.list.items))
+        (database_of tables.now.list.items) result }
 {
-    let Some(_) = read_definition(alloc, text.as_bytes())? else {
-        return Ok(Plan::Says(Reply::Fails(State::FEATURE_NOT_SUPPORTED)));
+    let Some(made) = table_by(&definition, source.as_bytes()) else {
+        return Plan::Fails(State::FEATURE_NOT_SUPPORTED);
     };
-    let text = text.copy(alloc)?;
-    Ok(Plan::Tries {
-        op: Op::Define { text },
-        reply: Reply::Done(Tag::CreateTable),
-        error: Reply::Fails(State::DUPLICATE_TABLE),
-    })
+    Plan::Tries {
+        op: Op::Define { text: source },
+        change: Change::Create(made),
+        reply: Tag::CreateTable,
+        error: State::DUPLICATE_TABLE,
+    }
 }
 
 fn plan_insert(alloc: Global, tables: &Tables, insert: &Insert) -> Result<Plan, Memory>
-    ensures { IfOk result (Plans (inserts insert.now.table (number_in insert.now) (database_of tables.now.list.items)) (database_of tables.now.list.items)) }
+    ensures { IfOk result (Plans
+        (inserts insert.now.table (number_in insert.now) (database_of tables.now.list.items))
+        (database_of tables.now.list.items)) }
 {
     let Some(number) = number_in(insert) else {
-        return Ok(Plan::Says(Reply::Fails(State::FEATURE_NOT_SUPPORTED)));
+        return Ok(Plan::Fails(State::FEATURE_NOT_SUPPORTED));
     };
     plan_row(alloc, tables, insert.table, number)
 }
@@ -77,19 +99,25 @@ fn plan_insert(alloc: Global, tables: &Tables, insert: &Insert) -> Result<Plan, 
 // A row under the table's next id, if there is the table and an id is left.
 fn plan_row(alloc: Global, tables: &Tables, table: Name, number: i32) -> Result<Plan, Memory>
     requires named { is_table_name table ≡ true }
-    ensures { IfOk result (Plans (inserts_at table number (next_of table (database_of tables.now.list.items)) (database_of tables.now.list.items)) (database_of tables.now.list.items)) }
+    ensures { IfOk result (Plans
+        (inserts_at table number (next_of table (database_of tables.now.list.items))
+        (database_of tables.now.list.items))
+        (database_of tables.now.list.items)) }
 {
     let Some(id) = tables.next_of(table) else {
-        return Ok(Plan::Says(Reply::Fails(State::UNDEFINED_TABLE)));
+        return Ok(Plan::Fails(State::UNDEFINED_TABLE));
     };
     if id == 0 || id >= 1 << 63 {
-        return Ok(Plan::Says(Reply::Fails(State::PROGRAM_LIMIT_EXCEEDED)));
+        return Ok(Plan::Fails(State::PROGRAM_LIMIT_EXCEEDED));
     }
     let mut row = List::new(alloc);
     row.push(Value::Int(number))?;
+    let op = Op::Put { table, id, row };
+    let change = Change::Apply(op.copy(alloc)?);
     Ok(Plan::Tries {
-        op: Op::Put { table, id, row },
-        reply: Reply::Done(Tag::Insert(1)),
-        error: Reply::Fails(State::PROGRAM_LIMIT_EXCEEDED),
+        op,
+        change,
+        reply: Tag::Insert(1),
+        error: State::PROGRAM_LIMIT_EXCEEDED,
     })
 }

@@ -1,36 +1,41 @@
 //! A session: the database in memory, and the keeper of the store that holds it.
 
-ghost use Rattle.std.specs.Prelude.{◌≡◌, ◌&&◌, ◌++◌, ◌∷◌, [], List, ℕ, ◌↔◌, true, Some, None, Ok, IfOk, OnOk, IsErrOf};
+ghost use Rattle.std.specs.Prelude.{true, ◌≡◌, ◌&&◌, ◌++◌, ◌∷◌, [], Some, None, Err, IfOk, IfErr, OnOk, IsErrOf};
 ghost use Rattle.pl_base.specs.Image.{Image};
-ghost use Rattle.pl_disk.specs.Disk.{View, Runs, Rises, Settled};
-ghost use Rattle.pl_keeper.specs.Store.{IsStore, OpensSame};
-ghost use Rattle.pl_model.specs.Covered.{Tells};
-ghost use Rattle.pl_model.specs.Database.{Database};
-ghost use Rattle.pl_model.specs.Opening.{opens};
-ghost use Rattle.pl_model.specs.Operation.{apply};
-ghost use Rattle.pl_model.specs.Spelling.{HasSpelling};
-ghost use Rattle.pl_model.specs.Trace.{Event, Said, Committed, text, last_commit};
-ghost use Rattle.pl_meaning.specs.Meaning.{events, commits_or, trace, is_failed, has_error, Readings};
-ghost use Rattle.pl_model.specs.declared.reading.Reading.{Reading as OneReading};
-ghost use Rattle.pl_session.specs.Replies.{line_of};
-ghost use Rattle.pl_session.specs.State.{database_in, IsReady, StartPair, IsOpened, IsFolded, outcome_of, ended_of};
-ghost use Rattle.pl_session.specs.Tables.{database_of};
-ghost use Rattle.pl_session.specs.declared.halt.StartFail.TheVariants as start;
-ghost use Rattle.pl_model.specs.Trace as Trace;
+ghost use Rattle.pl_codec.specs.Spelling.{HasSpelling};
+ghost use Rattle.pl_disk.specs.Disk.{Runs, Settled, Untouched};
+ghost use Rattle.pl_keeper.specs.Batches.{Damage};
+ghost use Rattle.pl_keeper.specs.Store.{all_stored};
+ghost use Rattle.pl_meaning.specs.Computed.{MeansAlike};
+ghost use Rattle.pl_meaning.specs.Database.{Database};
+ghost use Rattle.pl_meaning.specs.Meaning.{events, commits_or};
+ghost use Rattle.pl_meaning.specs.Opening.{opens};
+ghost use Rattle.pl_meaning.specs.Operation.{apply};
+ghost use Rattle.pl_meaning.specs.Replies.{error_line};
+ghost use Rattle.pl_meaning.specs.Trace.{Said, Committed, is_failed};
+ghost use Rattle.pl_print.specs.Tags.{tag_bytes};
+ghost use Rattle.pl_session.specs.AreaB.{KeepsAreaB};
+ghost use Rattle.pl_session.specs.Endings.{OfTrace, RunsAlong, Done, StopsBy, HasCause, outcome_of, ended_of};
+ghost use Rattle.pl_session.specs.Plans.{Spells};
+ghost use Rattle.pl_session.specs.Replies.{line_of, event_of};
+ghost use Rattle.pl_session.specs.Starts.{StartPair, OpensSame, IsStarted, HasStartCause};
+ghost use Rattle.pl_session.specs.State.{database_in, Stores, IsReady};
+ghost use Rattle.pl_session.specs.Steps.{AllOpen, StepCause, StepEnd, IsFolded};
+ghost use Rattle.pl_session.specs.Tables.{changed};
+ghost use Rattle.pl_session.specs.declared.halt.Halt.TheVariants.{Closed};
 ghost use Rattle.pl_session.specs.declared.halt.Stop.{Stop};
-ghost use Rattle.pl_session.specs.declared.halt.Stop.TheVariants as stop;
-ghost use Rattle.pl_session.specs.declared.halt.Halt.TheVariants.{Closed, Stopped};
 
 use crate::halt::{Ended, Halt, Outcome, StartFail, Stop};
 use crate::plan::{Plan, plan_of};
 use crate::reply::Reply;
 use crate::script::read_next;
-use crate::tables::Tables;
-use pl_base::{Area, Op};
+use crate::tables::{Change, Tables};
+use pl_base::{Area, Op, State};
 use pl_disk::Host;
 use pl_frames::FrameFail;
 use pl_keeper::{Batch, Keeper};
-use pl_model::Reading;
+use pl_meaning::Reading;
+use pl_print::Tag;
 use std::alloc::Global;
 
 /// What a session knows besides its host. Every call takes the same host.
@@ -44,7 +49,7 @@ pub struct SessionState {
 
 // The tables after these batches.
 fn fold(alloc: Global, batches: Vec<Batch>) -> Result<Tables, StartFail>
-    ensures { IsFolded batches.items result }
+    ensures { IsFolded (all_stored batches.items) result }
 {
     let mut tables = Tables::new(alloc);
     for batch in batches {
@@ -57,64 +62,22 @@ fn fold(alloc: Global, batches: Vec<Batch>) -> Result<Tables, StartFail>
 }
 
 // Prints a reply.
-fn say_reply<H: Host>(host: &mut H, reply: &[u8]) -> Result<(), Stop>
-    ensures moments { (db : Database) → ((H.view host.old).told → (c : Image) → (H.view host.old).may_leave c → opens c ≡ Ok db)
-        → Runs (H.view host.old) (H.view host.new) (Tells (H.view host.old).printed (Said reply.now ∷ []) db) }
-    ensures images { (H.view host.old).told → (c : Image) → (H.view host.new).may_leave c → (H.view host.old).may_leave c }
-    ensures printed { (H.view host.old).told → OnOk result ((H.view host.new).printed ≡ (H.view host.old).printed ++ reply.now) }
-    ensures disk { IsErrOf result stop.Disk → Rises (H.view host.old).disk_faults (H.view host.new).disk_faults }
-    ensures say { IsErrOf result stop.Say → Rises (H.view host.old).say_faults (H.view host.new).say_faults }
-{
-    match host.say(reply) {
-        Ok(()) => Ok(()),
-        Err(_) => Err(Stop::Say),
-    }
-}
-
-// Commits an operation and then prints the reply.
-fn commit_then_say<H: Host>(
-    keeper: &mut Keeper,
-    alloc: Global,
-    host: &mut H,
-    op: &Op,
-    reply: &[u8],
-) -> Result<(), Stop>
-    requires spelling { HasSpelling op.now }
-    requires store { (H.view host.old).told → (db : Database) × IsStore (H.view host.old).may_leave keeper.old db }
-    ensures moments { (db next : Database) → ((H.view host.old).told → IsStore (H.view host.old).may_leave keeper.old db) → apply op.now db ≡ Some next
-        → Runs (H.view host.old) (H.view host.new) (Tells (H.view host.old).printed (Committed next ∷ Said reply.now ∷ []) db) }
-    ensures store { (H.view host.old).told → OnOk result ((db next : Database) → IsStore (H.view host.old).may_leave keeper.old db → apply op.now db ≡ Some next
-        → IsStore (H.view host.new).may_leave keeper.new next) }
-    ensures opens_to { (H.view host.old).told → OnOk result ((db next : Database) → IsStore (H.view host.old).may_leave keeper.old db → apply op.now db ≡ Some next
-        → (c : Image) → (H.view host.new).may_leave c → opens c ≡ Ok next) }
-    ensures told { (H.view host.new).told → (H.view host.old).told }
-    ensures printed { (H.view host.old).told → OnOk result ((H.view host.new).printed ≡ (H.view host.old).printed ++ reply.now) }
-    ensures disk { IsErrOf result stop.Disk → Rises (H.view host.old).disk_faults (H.view host.new).disk_faults }
-    ensures say { IsErrOf result stop.Say → Rises (H.view host.old).say_faults (H.view host.new).say_faults }
-{
-    match keeper.commit(alloc, host, op) {
-        Ok(()) => {}
-        Err(FrameFail::Fault) => return Err(Stop::Disk),
-        Err(FrameFail::Memory) => return Err(Stop::Memory),
-        Err(FrameFail::Damaged { .. }) => unreachable!(),
-    }
-    match host.say(reply) {
-        Ok(()) => Ok(()),
-        Err(_) => Err(Stop::Say),
-    }
-}
-
-// Prints a reply.
 fn answer<H: Host>(alloc: Global, host: &mut H, reply: Reply) -> Result<(), Stop>
-    ensures moments { (db : Database) → ((H.view host.old).told → (c : Image) → (H.view host.old).may_leave c → opens c ≡ Ok db)
-        → Runs (H.view host.old) (H.view host.new) (Tells (H.view host.old).printed (Said (line_of reply) ∷ []) db) }
-    ensures images { (H.view host.old).told → (c : Image) → (H.view host.new).may_leave c → (H.view host.old).may_leave c }
-    ensures printed { (H.view host.old).told → OnOk result ((H.view host.new).printed ≡ (H.view host.old).printed ++ line_of reply) }
-    ensures disk { IsErrOf result stop.Disk → Rises (H.view host.old).disk_faults (H.view host.new).disk_faults }
-    ensures say { IsErrOf result stop.Say → Rises (H.view host.old).say_faults (H.view host.new).say_faults }
+    ensures moments { (db : Database) → AllOpen (H.view host.old) db
+        → RunsAlong (H.view host.old) (H.view host.new) (event_of reply ∷ []) db }
+    ensures images { (H.view host.old).told → (c : Image) → (H.view host.new).may_leave c
+        → (H.view host.old).may_leave c }
+    ensures printed { (H.view host.old).told
+        → OnOk result ((H.view host.new).printed ≡ (H.view host.old).printed ++ line_of reply) }
+    ensures cause { IfErr result (StepCause (H.view host.old) (H.view host.new)) }
+    ensures area_b { (H.view host.old).told
+        → KeepsAreaB (H.view host.old) (H.view host.new) }
 {
     let line = reply.line(alloc)?;
-    say_reply(host, line.as_slice())
+    match host.say(line.as_slice()) {
+        Ok(()) => Ok(()),
+        Err(_) => Err(Stop::Say),
+    }
 }
 
 // Commits an operation and then prints the reply.
@@ -123,49 +86,62 @@ fn commit_then_answer<H: Host>(
     alloc: Global,
     host: &mut H,
     op: &Op,
-    reply: Reply,
+    reply: Tag,
 ) -> Result<(), Stop>
     requires spelling { HasSpelling op.now }
-    requires store { (H.view host.old).told → (db : Database) × IsStore (H.view host.old).may_leave keeper.old db }
-    ensures moments { (db next : Database) → ((H.view host.old).told → IsStore (H.view host.old).may_leave keeper.old db) → apply op.now db ≡ Some next
-        → Runs (H.view host.old) (H.view host.new) (Tells (H.view host.old).printed (Committed next ∷ Said (line_of reply) ∷ []) db) }
-    ensures store { (H.view host.old).told → OnOk result ((db next : Database) → IsStore (H.view host.old).may_leave keeper.old db → apply op.now db ≡ Some next
-        → IsStore (H.view host.new).may_leave keeper.new next) }
-    ensures opens_to { (H.view host.old).told → OnOk result ((db next : Database) → IsStore (H.view host.old).may_leave keeper.old db → apply op.now db ≡ Some next
-        → (c : Image) → (H.view host.new).may_leave c → opens c ≡ Ok next) }
-    ensures told { (H.view host.new).told → (H.view host.old).told }
-    ensures printed { (H.view host.old).told → OnOk result ((H.view host.new).printed ≡ (H.view host.old).printed ++ line_of reply) }
-    ensures disk { IsErrOf result stop.Disk → Rises (H.view host.old).disk_faults (H.view host.new).disk_faults }
-    ensures say { IsErrOf result stop.Say → Rises (H.view host.old).say_faults (H.view host.new).say_faults }
+    requires store { (H.view host.old).told
+        → (db : Database) × Stores (H.view host.old).may_leave keeper.old db }
+    ensures moments { (db next : Database)
+        → ((H.view host.old).told → Stores (H.view host.old).may_leave keeper.old db)
+        → apply op.now db ≡ Some next
+        → RunsAlong (H.view host.old) (H.view host.new)
+        (Committed next ∷ Said (tag_bytes reply) ∷ []) db }
+    ensures store { (H.view host.old).told → OnOk result ((db next : Database)
+        → Stores (H.view host.old).may_leave keeper.old db
+        → apply op.now db ≡ Some next
+        → Stores (H.view host.new).may_leave keeper.new next) }
+    ensures printed { (H.view host.old).told
+        → OnOk result ((H.view host.new).printed ≡ (H.view host.old).printed ++ tag_bytes reply) }
+    ensures cause { IfErr result (StepCause (H.view host.old) (H.view host.new)) }
+    ensures area_b { (H.view host.old).told
+        → KeepsAreaB (H.view host.old) (H.view host.new) }
 {
-    let line = reply.line(alloc)?;
-    commit_then_say(keeper, alloc, host, op, line.as_slice())
+    let line = Reply::Done(reply).line(alloc)?;
+    match keeper.commit(alloc, host, op) {
+        Ok(()) => {}
+        Err(FrameFail::Fault) => return Err(Stop::Disk),
+        Err(FrameFail::Memory) => return Err(Stop::Memory),
+        Err(FrameFail::Damaged { .. }) => unreachable!(),
+    }
+    match host.say(line.as_slice()) {
+        Ok(()) => Ok(()),
+        Err(_) => Err(Stop::Say),
+    }
 }
 
-// Does an operation if it applies, commits it and then prints the reply; or prints the error. The
+// Makes a change if it can be made, commits it and then prints the reply; or prints the error. The
 // answer is whether it was an error.
-fn try_commit<H: Host>(
+fn try_change<H: Host>(
     state: &mut SessionState,
     host: &mut H,
     op: &Op,
-    reply: Reply,
-    error: Reply,
+    change: Change,
+    reply: Tag,
+    error: State,
 ) -> Result<bool, Stop>
-    requires spelling { HasSpelling op.now }
+    requires spelled { Spells op.now change (database_in state.old) }
     requires ready { IsReady (H.view host.old) state.old }
-    ensures moments { Runs (H.view host.old) (H.view host.new)
-        (Tells (H.view host.old).printed (commits_or (line_of reply) (line_of error) (apply op.now (database_in state.old))) (database_in state.old)) }
-    ensures ready { OnOk result (IsReady (H.view host.new) state.new) }
-    ensures database { OnOk result (database_in state.new ≡ last_commit (commits_or (line_of reply) (line_of error) (apply op.now (database_in state.old))) (database_in state.old)) }
-    ensures printed { (H.view host.old).told → OnOk result ((H.view host.new).printed ≡ (H.view host.old).printed
-        ++ text (commits_or (line_of reply) (line_of error) (apply op.now (database_in state.old)))) }
-    ensures failed { IfOk result (λ failed. failed ≡ is_failed (commits_or (line_of reply) (line_of error) (apply op.now (database_in state.old)))) }
-    ensures disk { IsErrOf result stop.Disk → Rises (H.view host.old).disk_faults (H.view host.new).disk_faults }
-    ensures say { IsErrOf result stop.Say → Rises (H.view host.old).say_faults (H.view host.new).say_faults }
+    ensures moments { RunsAlong (H.view host.old) (H.view host.new)
+        (commits_or (tag_bytes reply) (error_line error) (changed change (database_in state.old)))
+        (database_in state.old) }
+    ensures ended { StepEnd (H.view host.old) (H.view host.new) state.old state.new
+        (commits_or (tag_bytes reply) (error_line error) (changed change (database_in state.old)))
+        result }
+    ensures area_b { (H.view host.old).told
+        → KeepsAreaB (H.view host.old) (H.view host.new) }
 {
-    let copied = op.copy(state.alloc)?;
-    if !state.tables.apply(copied)? {
-        answer(state.alloc, host, error)?;
+    if !state.tables.change(change)? {
+        answer(state.alloc, host, Reply::Fails(error))?;
         return Ok(true);
     }
     commit_then_answer(&mut state.keeper, state.alloc, host, op, reply)?;
@@ -183,19 +159,28 @@ impl SessionState {
     /// Opens the store of an attached host, or makes a new one where area A is closed.
     ///
     /// `Disk` comes where a call of the disk failed. `Damaged` comes where the files are malformed,
-    /// with the first such place.
+    /// with the first such place; then they stay as they are.
     pub fn start<H: Host>(alloc: Global, host: &mut H) -> Result<SessionState, StartFail>
         // Nothing is printed, and each image is one from before or opens as what reads give.
         ensures moments { Runs (H.view host.old) (H.view host.new) (StartPair (H.view host.old)) }
 
         // From the first sync on, if it succeeds, each image opens as what reads give.
-        ensures settled { (H.view host.old).told → Settled (H.view host.old) (H.view host.new) (OpensSame (H.view host.old)) }
-        ensures synced { (H.view host.old).told → OnOk result ((t : ℕ) × (later : List ℕ) × ((H.view host.new).synced ≡ (H.view host.old).synced ++ t ∷ later)) }
-        ensures printed { (H.view host.old).told → (H.view host.new).printed ≡ (H.view host.old).printed }
-        ensures opened { (H.view host.old).told → IsOpened (opens (H.view host.old).seen) result }
-        ensures ready { IfOk result (IsReady (H.view host.new)) }
-        ensures disk { IsErrOf result start.Disk → Rises (H.view host.old).disk_faults (H.view host.new).disk_faults }
+        ensures settled { (H.view host.old).told
+            → Settled (H.view host.old) (H.view host.new) (OpensSame (H.view host.old)) }
+        ensures printed { (H.view host.old).told
+            → (H.view host.new).printed ≡ (H.view host.old).printed }
         ensures say_faults { (H.view host.new).say_faults ≡ (H.view host.old).say_faults }
+
+        // After Ok the session is ready; each error has its cause.
+        ensures started { IfOk result (IsStarted (H.view host.old) (H.view host.new)) }
+        ensures cause { IfErr result (HasStartCause (H.view host.old) (H.view host.new)) }
+
+        // A store that does not open stays as it is, however the call ends, and area B always does.
+        ensures untouched { (H.view host.old).told → (damage : Damage)
+            → opens (H.view host.old).seen ≡ Err damage
+            → Untouched (H.view host.old) (H.view host.new) }
+        ensures area_b { (H.view host.old).told
+            → (H.view host.new).seen.b ≡ (H.view host.old).seen.b }
     {
         let (keeper, batches) = Keeper::recover(alloc, host)?;
         let tables = fold(alloc, batches)?;
@@ -217,21 +202,26 @@ impl SessionState {
     // Runs what a piece of a script is read as. The answer is whether it was an error.
     fn run_reading<H: Host>(&mut self, host: &mut H, reading: Reading) -> Result<bool, Stop>
         requires ready { IsReady (H.view host.old) self.old }
-        ensures moments { Runs (H.view host.old) (H.view host.new) (Tells (H.view host.old).printed (events reading (database_in self.old)) (database_in self.old)) }
-        ensures ready { OnOk result (IsReady (H.view host.new) self.new) }
-        ensures database { OnOk result (database_in self.new ≡ last_commit (events reading (database_in self.old)) (database_in self.old)) }
-        ensures printed { (H.view host.old).told → OnOk result ((H.view host.new).printed ≡ (H.view host.old).printed ++ text (events reading (database_in self.old))) }
-        ensures failed { IfOk result (λ failed. failed ≡ is_failed (events reading (database_in self.old))) }
-        ensures disk { IsErrOf result stop.Disk → Rises (H.view host.old).disk_faults (H.view host.new).disk_faults }
-        ensures say { IsErrOf result stop.Say → Rises (H.view host.old).say_faults (H.view host.new).say_faults }
+        requires alike { MeansAlike reading }
+        ensures moments { RunsAlong (H.view host.old) (H.view host.new)
+            (events reading (database_in self.old)) (database_in self.old) }
+        ensures ended { StepEnd (H.view host.old) (H.view host.new) self.old self.new
+            (events reading (database_in self.old)) result }
+        ensures area_b { (H.view host.old).told
+            → KeepsAreaB (H.view host.old) (H.view host.new) }
     {
         match plan_of(self.alloc, &self.tables, reading)? {
             Plan::Nothing => Ok(false),
-            Plan::Says(reply) => {
-                answer(self.alloc, host, reply)?;
+            Plan::Fails(state) => {
+                answer(self.alloc, host, Reply::Fails(state))?;
                 Ok(true)
             }
-            Plan::Tries { op, reply, error } => try_commit(self, host, &op, reply, error),
+            Plan::Tries {
+                op,
+                change,
+                reply,
+                error,
+            } => try_change(self, host, &op, change, reply, error),
         }
     }
 
@@ -243,17 +233,18 @@ impl SessionState {
         stops: bool,
     ) -> Result<Ended, Stop>
         requires ready { IsReady (H.view host.old) self.old }
-        ensures moments { (readings : List OneReading) → Readings script.now readings
-            → Runs (H.view host.old) (H.view host.new) (Tells (H.view host.old).printed (trace stops readings (database_in self.old)) (database_in self.old)) }
-        ensures ready { OnOk result (IsReady (H.view host.new) self.new) }
-        ensures database { (readings : List OneReading) → Readings script.now readings
-            → OnOk result (database_in self.new ≡ last_commit (trace stops readings (database_in self.old)) (database_in self.old)) }
-        ensures printed { (H.view host.old).told → (readings : List OneReading) → Readings script.now readings
-            → OnOk result ((H.view host.new).printed ≡ (H.view host.old).printed ++ text (trace stops readings (database_in self.old))) }
-        ensures ended { (readings : List OneReading) → Readings script.now readings
-            → IfOk result (λ ended. ended ≡ ended_of (stops && has_error readings (database_in self.old))) }
-        ensures disk { IsErrOf result stop.Disk → Rises (H.view host.old).disk_faults (H.view host.new).disk_faults }
-        ensures say { IsErrOf result stop.Say → Rises (H.view host.old).say_faults (H.view host.new).say_faults }
+        ensures moments { OfTrace script.now stops (database_in self.old)
+            (λ events. RunsAlong (H.view host.old) (H.view host.new) events
+            (database_in self.old)) }
+        ensures done { OfTrace script.now stops (database_in self.old)
+            (λ events. OnOk result
+            (Done (H.view host.old) (H.view host.new) self.old self.new events)) }
+        ensures ended { OfTrace script.now stops (database_in self.old)
+            (λ events. IfOk result (λ ended. ended ≡ ended_of (stops && is_failed events))) }
+        ensures cause { IfErr result
+            (StopsBy (H.view host.old) (H.view host.new) script.now stops (database_in self.old)) }
+        ensures area_b { (H.view host.old).told
+            → KeepsAreaB (H.view host.old) (H.view host.new) }
     {
         let mut at = 0;
         'pieces: loop {
@@ -277,38 +268,35 @@ impl SessionState {
         requires ready { self.old.failed ≡ None → IsReady (H.view host.old) self.old }
 
         // At every moment what was printed and what a crash leaves go along the command's events.
-        ensures moments { (readings : List OneReading) → Readings text.now readings
-            → Runs (H.view host.old) (H.view host.new) (Tells (H.view host.old).printed (trace true readings (database_in self.old)) (database_in self.old)) }
-        ensures ready { OnOk result (IsReady (H.view host.new) self.new) }
-        ensures database { (readings : List OneReading) → Readings text.now readings
-            → OnOk result (database_in self.new ≡ last_commit (trace true readings (database_in self.old)) (database_in self.old)) }
-        ensures printed { (H.view host.old).told → (readings : List OneReading) → Readings text.now readings
-            → OnOk result ((H.view host.new).printed ≡ (H.view host.old).printed ++ Trace.text (trace true readings (database_in self.old))) }
-        ensures outcome { (readings : List OneReading) → Readings text.now readings
-            → IfOk result (λ outcome. outcome ≡ outcome_of (has_error readings (database_in self.old))) }
+        ensures moments { OfTrace text.now true (database_in self.old)
+            (λ events. RunsAlong (H.view host.old) (H.view host.new) events
+            (database_in self.old)) }
 
-        // Each answer has its cause.
-        ensures closed { (why : Stop) → (IsErrOf result (Closed why)) ↔ (self.old.failed ≡ Some why) }
-        ensures nothing_done { (why : Stop) → self.old.failed ≡ Some why → (host.new ≡ host.old) × (self.new ≡ self.old) }
-        ensures stopped { (why : Stop) → IsErrOf result (Stopped why) → self.new.failed ≡ Some why }
-        ensures disk { IsErrOf result (Stopped stop.Disk) → Rises (H.view host.old).disk_faults (H.view host.new).disk_faults }
-        ensures say { IsErrOf result (Stopped stop.Say) → Rises (H.view host.old).say_faults (H.view host.new).say_faults }
+        // After Ok they are done, and the answer says whether one failed.
+        ensures done { OfTrace text.now true (database_in self.old)
+            (λ events. OnOk result
+            (Done (H.view host.old) (H.view host.new) self.old self.new events)) }
+        ensures outcome { OfTrace text.now true (database_in self.old)
+            (λ events. IfOk result (λ outcome. outcome ≡ outcome_of (is_failed events))) }
+
+        // Each other answer has its cause, and one comes from a session that had stopped.
+        ensures cause { IfErr result
+            (HasCause H.view host.old host.new self.old self.new text.now true) }
+        ensures closed { (why : Stop) → self.old.failed ≡ Some why → IsErrOf result (Closed why) }
+
+        // Area B stays as it is.
+        ensures area_b { (H.view host.old).told
+            → KeepsAreaB (H.view host.old) (H.view host.new) }
     {
-        if let Some(stop) = self.failed {
-            return Err(Halt::Closed(stop));
-        }
-        match self.run_pieces(host, text, true) {
+        match self.run_script(host, text, true) {
             Ok(Ended::Whole) => Ok(Outcome::Fine),
             Ok(Ended::AtError) => Ok(Outcome::Errored),
-            Err(stop) => {
-                self.failed = Some(stop);
-                Err(Halt::Stopped(stop))
-            }
+            Err(halt) => Err(halt),
         }
     }
 
-    /// Runs the commands of a script in order. Where it stops on errors, the first command that gets
-    /// one is the last that runs, and the answer is `AtError`.
+    /// Runs the commands of a script in order. Where it stops on errors, the first command that
+    /// gets one is the last that runs, and the answer is `AtError`.
     ///
     /// `Closed` and `Stopped` come as for `run_command`.
     pub fn run_script<H: Host>(
@@ -319,25 +307,28 @@ impl SessionState {
     ) -> Result<Ended, Halt>
         requires ready { self.old.failed ≡ None → IsReady (H.view host.old) self.old }
 
-        // At every moment what was printed and what a crash leaves go along the script's trace.
-        ensures moments { (readings : List OneReading) → Readings script.now readings
-            → Runs (H.view host.old) (H.view host.new) (Tells (H.view host.old).printed (trace stops_on_error readings (database_in self.old)) (database_in self.old)) }
-        ensures ready { OnOk result (IsReady (H.view host.new) self.new) }
-        ensures database { (readings : List OneReading) → Readings script.now readings
-            → OnOk result (database_in self.new ≡ last_commit (trace stops_on_error readings (database_in self.old)) (database_in self.old)) }
-        ensures printed { (H.view host.old).told → (readings : List OneReading) → Readings script.now readings
-            → OnOk result ((H.view host.new).printed ≡ (H.view host.old).printed ++ Trace.text (trace stops_on_error readings (database_in self.old))) }
+        // At every moment what was printed and what a crash leaves go along the script's events.
+        ensures moments { OfTrace script.now stops_on_error (database_in self.old)
+            (λ events. RunsAlong (H.view host.old) (H.view host.new) events
+            (database_in self.old)) }
 
-        // It ends at an error exactly where it stops on errors and the trace has one.
-        ensures ended { (readings : List OneReading) → Readings script.now readings
-            → IfOk result (λ ended. ended ≡ ended_of (stops_on_error && has_error readings (database_in self.old))) }
+        // After Ok they are done. It ends at an error exactly where it stops on errors and one
+        // failed.
+        ensures done { OfTrace script.now stops_on_error (database_in self.old)
+            (λ events. OnOk result
+            (Done (H.view host.old) (H.view host.new) self.old self.new events)) }
+        ensures ended { OfTrace script.now stops_on_error (database_in self.old)
+            (λ events. IfOk result
+            (λ ended. ended ≡ ended_of (stops_on_error && is_failed events))) }
 
-        // Each answer has its cause.
-        ensures closed { (why : Stop) → (IsErrOf result (Closed why)) ↔ (self.old.failed ≡ Some why) }
-        ensures nothing_done { (why : Stop) → self.old.failed ≡ Some why → (host.new ≡ host.old) × (self.new ≡ self.old) }
-        ensures stopped { (why : Stop) → IsErrOf result (Stopped why) → self.new.failed ≡ Some why }
-        ensures disk { IsErrOf result (Stopped stop.Disk) → Rises (H.view host.old).disk_faults (H.view host.new).disk_faults }
-        ensures say { IsErrOf result (Stopped stop.Say) → Rises (H.view host.old).say_faults (H.view host.new).say_faults }
+        // Each other answer has its cause, and one comes from a session that had stopped.
+        ensures cause { IfErr result
+            (HasCause H.view host.old host.new self.old self.new script.now stops_on_error) }
+        ensures closed { (why : Stop) → self.old.failed ≡ Some why → IsErrOf result (Closed why) }
+
+        // Area B stays as it is.
+        ensures area_b { (H.view host.old).told
+            → KeepsAreaB (H.view host.old) (H.view host.new) }
     {
         if let Some(why) = self.failed {
             return Err(Halt::Closed(why));

@@ -1,16 +1,16 @@
 //! The database in memory.
 
-ghost use Rattle.std.specs.Prelude.{◌≡◌, ◌==◌, ◌<◌, ◌^◌, ◌||◌, [], ◌∷◌, length, IfOk, nat_eq, nat_lt};
+ghost use Rattle.std.specs.Prelude.{◌≡◌, ◌<◌, ◌^◌, ◌||◌, [], length, IfOk, nat_eq, nat_lt};
 ghost use Rattle.std.specs.List.{position};
 ghost use Rattle.std.specs.Cmp.Lexicographic.{pointwise};
-ghost use Rattle.pl_base.specs.declared.types.Ty.TheVariants as type;
-ghost use Rattle.pl_model.specs.Database.{fits, has_row, put_in, put, define, next_of};
+ghost use Rattle.pl_meaning.specs.Database as database;
+ghost use Rattle.pl_meaning.specs.Database.{fits, has_row, put_in, put, define, next_of};
 ghost use Rattle.pl_base.specs.declared.operation.Op.TheVariants.{Define, Put};
-ghost use Rattle.pl_model.specs.Operation.{apply};
-ghost use Rattle.pl_session.specs.Tables.{integer_column, table_of, database_of, Becomes};
+ghost use Rattle.pl_meaning.specs.Operation.{apply};
+ghost use Rattle.pl_session.specs.Tables.{integer_column, table_of, database_of, changed, Becomes};
 
 use pl_base::{Cells, Memory, Name, Op, Value};
-use pl_model::read_definition;
+use pl_meaning::{IntegerTable, read_definition};
 use std::alloc::Global;
 use std::collections::BTreeMap;
 
@@ -31,7 +31,8 @@ impl Table {
     // Whether the row was put there: it fits the column, and isn't one too many.
     fn put(&mut self, id: u64, row: Cells) -> Result<bool, Memory>
         requires { id < 2 ^ 63 }
-        ensures { IfOk result (λ done. Becomes done (table_of self.old) (table_of self.new) (put_in id row (table_of self.old))) }
+        ensures { IfOk result (λ done. Becomes done (table_of self.old) (table_of self.new)
+            (put_in id row (table_of self.old))) }
     {
         if !is_one_integer(row.as_slice()) {
             return Ok(false);
@@ -47,7 +48,8 @@ impl Table {
 
 // Whether a row of this id is there, or one more can be.
 fn has_room(rows: &BTreeMap<u64, Cells>, id: u64) -> bool
-    ensures { result ≡ (has_row id rows.now.entries || nat_lt (length rows.now.entries) MOST_ROWS) }
+    ensures { result ≡ (has_row id rows.now.entries
+        || nat_lt (length rows.now.entries) database.MOST_ROWS) }
 {
     rows.contains_key(&id) || rows.len() < MOST_ROWS
 }
@@ -66,6 +68,15 @@ fn place_of(tables: &[Table], name: Name) -> Option<usize>
     ensures { result ≡ position (λ table. pointwise nat_eq table.name name) tables.now }
 {
     tables.iter().position(|table| table.name == name)
+}
+
+/// A change of the tables.
+#[derive(Drop)]
+pub enum Change {
+    /// A new table.
+    Create(IntegerTable),
+    /// What the operation does.
+    Apply(Op),
 }
 
 /// The tables in the order in which they were made.
@@ -89,7 +100,8 @@ impl Tables {
     // Whether a row was put into the table of this name.
     fn put(&mut self, name: Name, id: u64, row: Cells) -> Result<bool, Memory>
         requires { id < 2 ^ 63 }
-        ensures { IfOk result (λ done. Becomes done (database_of self.old.list.items) (database_of self.new.list.items) (put name id row (database_of self.old.list.items))) }
+        ensures { IfOk result (λ done. Becomes done (database_of self.old.list.items)
+            (database_of self.new.list.items) (put name id row (database_of self.old.list.items))) }
     {
         let Some(at) = place_of(&self.list, name) else {
             return Ok(false);
@@ -100,7 +112,9 @@ impl Tables {
 
     // Whether a table of this name was made.
     fn define(&mut self, name: Name, column: Name) -> Result<bool, Memory>
-        ensures { IfOk result (λ done. Becomes done (database_of self.old.list.items) (database_of self.new.list.items) (define name (integer_column column) (database_of self.old.list.items))) }
+        ensures { IfOk result (λ done. Becomes done (database_of self.old.list.items)
+            (database_of self.new.list.items) (define name (integer_column column)
+            (database_of self.old.list.items))) }
     {
         let None = place_of(&self.list, name) else {
             return Ok(false);
@@ -116,7 +130,9 @@ impl Tables {
 
     // Whether the table of a definition was made.
     fn define_by(&mut self, text: &[u8]) -> Result<bool, Memory>
-        ensures { IfOk result (λ done. Becomes done (database_of self.old.list.items) (database_of self.new.list.items) (apply (Define text.now) (database_of self.old.list.items))) }
+        ensures { IfOk result (λ done. Becomes done (database_of self.old.list.items)
+            (database_of self.new.list.items)
+            (apply (Define text.now) (database_of self.old.list.items))) }
     {
         let Some(made) = read_definition(self.alloc, text)? else {
             return Ok(false);
@@ -126,7 +142,9 @@ impl Tables {
 
     // Whether a row was put, under an id that is one.
     fn put_by(&mut self, name: Name, id: u64, row: Cells) -> Result<bool, Memory>
-        ensures { IfOk result (λ done. Becomes done (database_of self.old.list.items) (database_of self.new.list.items) (apply (Put name id row) (database_of self.old.list.items))) }
+        ensures { IfOk result (λ done. Becomes done (database_of self.old.list.items)
+            (database_of self.new.list.items)
+            (apply (Put name id row) (database_of self.old.list.items))) }
     {
         if id == 0 || id >= 1 << 63 {
             return Ok(false);
@@ -136,13 +154,25 @@ impl Tables {
 
     /// Does an operation, if it applies, and says whether it does.
     pub fn apply(&mut self, op: Op) -> Result<bool, Memory>
-        ensures { IfOk result (λ done. Becomes done (database_of self.old.list.items) (database_of self.new.list.items) (apply op (database_of self.old.list.items))) }
+        ensures { IfOk result (λ done. Becomes done (database_of self.old.list.items)
+            (database_of self.new.list.items) (apply op (database_of self.old.list.items))) }
     {
         match op {
             Op::Define { text } => self.define_by(text.as_bytes()),
             Op::Put { table, id, row } => self.put_by(table, id, row),
             Op::Remove { .. } => Ok(false),
             Op::Next { .. } => Ok(false),
+        }
+    }
+
+    /// Makes a change, if it can be made, and says whether it was.
+    pub fn change(&mut self, change: Change) -> Result<bool, Memory>
+        ensures { IfOk result (λ done. Becomes done (database_of self.old.list.items)
+            (database_of self.new.list.items) (changed change (database_of self.old.list.items))) }
+    {
+        match change {
+            Change::Create(made) => self.define(made.table, made.column),
+            Change::Apply(op) => self.apply(op),
         }
     }
 

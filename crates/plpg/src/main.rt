@@ -2,7 +2,7 @@
 //! file, the output or the memory fails it, a line on standard error says what failed and why.
 #![tactic(auto)]
 
-use pl_cli::{FileHost, FileSource, Line, Problem, read_words, refuse_words, run};
+use pl_cli::{Ending, FileHost, FileSource, Line, Problem, read_words, refuse_words, run};
 use std::env;
 use std::io::{self, ErrorKind};
 use std::process::ExitCode;
@@ -19,18 +19,18 @@ fn explain_problem(rt: &HostRuntime, problem: Option<Problem>, name: &str) -> io
 // Says what failed. Of words and a script that are refused the output has a line already.
 fn explain(
     rt: &HostRuntime,
-    status: u8,
+    ending: Ending,
     line: Line<'_>,
     host: &FileHost,
     source: &FileSource,
 ) -> io::Result<()> {
-    match status {
-        4 => explain_problem(rt, host.disk_problem(), line.store),
-        5 => explain_problem(rt, source.problem(), line.script),
-        6 => explain_problem(rt, host.say_problem(), line.store),
-        7 => eprintln!(rt; "plpg: {}: the store is damaged", line.store),
-        9 => eprintln!(rt; "{NO_MEMORY}"),
-        _ => Ok(()),
+    match ending {
+        Ending::Disk => explain_problem(rt, host.disk_problem(), line.store),
+        Ending::Source => explain_problem(rt, source.problem(), line.script),
+        Ending::Say => explain_problem(rt, host.say_problem(), line.store),
+        Ending::Damaged => eprintln!(rt; "plpg: {}: the store is damaged", line.store),
+        Ending::Memory => eprintln!(rt; "{NO_MEMORY}"),
+        Ending::Whole | Ending::Usage | Ending::AtError | Ending::Refused => Ok(()),
     }
 }
 
@@ -40,25 +40,31 @@ fn run_words(rt: HostRuntime, words: &[String]) -> u8 {
     let finish = run(rt.alloc(), words, &mut host, &mut source);
     // Where standard error fails too, the status alone says it.
     let _ = match read_words(rt.alloc(), words) {
-        Ok(line) => explain(&rt, finish.status, line, &host, &source),
-        Err(_) => explain_refused(&rt, finish.status, &host),
+        Ok(line) => explain(&rt, finish.ending, line, &host, &source),
+        Err(_) => explain_refused(&rt, finish.ending, &host),
     };
     finish.status
 }
 
 // The same where the words are no line.
-fn explain_refused(rt: &HostRuntime, status: u8, host: &FileHost) -> io::Result<()> {
-    match status {
-        6 => explain_problem(rt, host.say_problem(), ""),
-        9 => eprintln!(rt; "{NO_MEMORY}"),
-        _ => Ok(()),
+fn explain_refused(rt: &HostRuntime, ending: Ending, host: &FileHost) -> io::Result<()> {
+    match ending {
+        Ending::Say => explain_problem(rt, host.say_problem(), ""),
+        Ending::Memory => eprintln!(rt; "{NO_MEMORY}"),
+        Ending::Whole
+        | Ending::Usage
+        | Ending::AtError
+        | Ending::Disk
+        | Ending::Source
+        | Ending::Damaged
+        | Ending::Refused => Ok(()),
     }
 }
 
 fn refuse(rt: HostRuntime) -> u8 {
     let mut host = FileHost::new(rt);
     let finish = refuse_words(&mut host);
-    let _ = explain_refused(&rt, finish.status, &host);
+    let _ = explain_refused(&rt, finish.ending, &host);
     finish.status
 }
 
@@ -71,7 +77,7 @@ fn main(rt: HostRuntime) -> ExitCode {
         Ok(words) => run_words(rt, &words),
         Err(error) if error.kind() == ErrorKind::OutOfMemory => {
             let _ = eprintln!(rt; "{NO_MEMORY}");
-            9
+            Ending::Memory.status()
         }
         // A word isn't UTF-8.
         Err(_) => refuse(rt),

@@ -9,7 +9,7 @@ turn text buf old rest left new n short is grown whole =
 
 pub turns-preserved : goal.turns-preserved
 turns-preserved g c = record {
-  named = λ name is. c.take.ensures.named name (c.turns.invariant.named name is);
+  attached = λ names is. c.take.ensures.attached names (c.turns.invariant.attached names is);
   faults = omega (arith, c.turns.invariant.faults, c.take.ensures.faults);
   read = λ left is.
       let was = c.turns.invariant.read left is in

@@ -1,5 +1,5 @@
 use Rattle.std.proofs.Common.{◌≡◌, ◌∙◌, ◌++◌, length, Ok, Bool, refl, sym, ap, subst, arith, rules, vec_len}
-use Rattle.pl_model.specs.Operation.{apply}
+use Rattle.pl_meaning.specs.Operation.{apply}
 use Rattle.pl_session.specs.Tables.{database_of, Becomes}
 use Rattle.pl_session.proofs.Folding.{one_more, stops, all, moved}
 use Rattle.pl_session.proofs.state.fold.Goals as goal

@@ -1,5 +1,5 @@
 use Rattle.std.proofs.Common.{◌≡◌, ◌∙◌, ◌||◌, Bool, true, false, ℕ, length, nat_lt, sym, ap}
-use Rattle.pl_model.specs.Database.{has_row, MOST_ROWS}
+use Rattle.pl_meaning.specs.Database.{has_row, MOST_ROWS}
 use Rattle.pl_session.proofs.Named.{row_found}
 use Rattle.pl_session.proofs.tables.has_room.Goals as goal
 

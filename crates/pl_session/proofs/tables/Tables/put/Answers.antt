@@ -1,5 +1,5 @@
 use Rattle.std.proofs.Common.{refl, sym, subst}
-use Rattle.pl_model.specs.Database.{put_in}
+use Rattle.pl_meaning.specs.Database.{put_in}
 use Rattle.pl_session.specs.Tables.{table_of, Becomes}
 use Rattle.pl_session.specs.declared.tables.Table.{Table}
 use Rattle.pl_session.proofs.Named.{put_absent, put_there}

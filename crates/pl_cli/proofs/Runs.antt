@@ -1,0 +1,156 @@
+-- The steps of a run put together.
+use Rattle.std.proofs.Common.{◌≡◌, ◌≢◌, ◌⊎◌, ◌<◌, ◌≤◌, ◌-◌, ◌^◌, ◌&&◌, Bool, arith, inl, inr, ⊎_elim, ℕ, List, [], ◌∷◌, ◌++◌, Result, Ok, Option, Some, refl, sym, ◌∙◌, ap, subst}
+use Rattle.std.proofs.lemmas.List.{append-nil}
+use Rattle.std.proofs.Math.Nat.{eq-or-lt_of_le}
+use Rattle.pl_base.specs.Image.{Image}
+use Rattle.pl_disk.specs.Disk.{View, IsLawful, Calls, IsPrefix, Keeps, Rises, Runs, Untouched, with_attached}
+use Rattle.pl_disk.specs.Lent.{each, from_call, goes_on, runs_on, since_attach, weaker}
+use Rattle.pl_disk.specs.declared.device.Failed.{Failed}
+use Rattle.pl_keeper.specs.Store.{KeepsB}
+use Rattle.pl_meaning.specs.Covered.{AlongFrom}
+use Rattle.pl_meaning.specs.Database.{Database}
+use Rattle.pl_meaning.specs.Meaning.{IsTrace}
+use Rattle.pl_meaning.specs.Opening.{opens}
+use Rattle.pl_meaning.specs.Trace.{Event, Said, is_failed}
+use Rattle.pl_session.specs.Starts.{StartPair}
+use Rattle.pl_session.specs.AreaB.{KeepsAreaB}
+use Rattle.pl_session.specs.Lent.{area_b_kept}
+use Rattle.pl_cli.specs.Line.{Asked, Word, asked}
+use Rattle.pl_cli.specs.Parts.{SaysLast, ScriptEnd}
+use Rattle.pl_cli.specs.Printed.{refusal_line}
+use Rattle.pl_cli.specs.Runs.{Done, HasCause, IsDue, IsStored, IsWhole, OnlySays, Over}
+use Rattle.pl_cli.specs.Script.{IsFirst, IsRefusedAt, IsScript, Spoils, script_text}
+use Rattle.pl_cli.specs.declared.ending.Ending.{Ending}
+use Rattle.pl_cli.specs.declared.ending.Ending.TheVariants.{Whole, Usage, AtError, Disk, Source, Say, Damaged, Refused, Memory}
+
+-- ---- what is due
+
+-- a script that is refused at one offset is refused at no other, and is none
+pub one_first : (P : ℕ → Type 0) (a b : ℕ) → IsFirst P a → IsFirst P b → a ≡ b
+one_first P a b one two = ⊎_elim (λ below. absurd (two.1 a below one.0)) (λ rest. ⊎_elim (λ above. absurd (one.1 b above two.0)) (λ same. same) rest) (order a b)
+  where
+    order : (m n : ℕ) → (m < n) ⊎ ((n < m) ⊎ (m ≡ n))
+    order m n = grind arith
+
+pub refused_due : (script : List ℕ) (stops : Bool) (db : Database) (events : List Event) (at : ℕ) → IsRefusedAt script at → IsDue script stops db events → Said (refusal_line at) ∷ [] ≡ events
+refused_due script stops db events at refused (inl due) = ap (λ (k : ℕ). Said (refusal_line k) ∷ []) (one_first (Spoils script) at due.0 refused due.1) ∙ sym due.2
+refused_due script stops db events at refused (inr due) = absurd (due.0 at refused.0)
+
+pub script_due : (script : List ℕ) (stops : Bool) (db : Database) (events : List Event) → IsScript script → IsDue script stops db events → IsTrace (script_text script) stops db events
+script_due script stops db events is (inl due) = absurd (is due.0 due.1.0)
+script_due script stops db events is (inr due) = due.1
+
+pub one_asked : (o : Option Asked) (a b : Asked) → o ≡ Some a → o ≡ Some b → a ≡ b
+one_asked o a b one two = cc
+
+-- the trace of what the run begins with, of the line and the script that were read
+pub trace_of : (words : List Word) (view : View) (left : Option (List ℕ)) (db found : Database) (events : List Event) (over : Over words view left db events)
+    (line : Asked) (text : List ℕ) → asked words ≡ Some line → found ≡ db → IsScript over.script → text ≡ script_text over.script → IsTrace text line.stops_on_error found events
+trace_of words view left db found events over line text asks same is_script is_text =
+    let one : over.line ≡ line = one_asked (asked words) over.line line over.asks asks in
+    subst (λ (t : List ℕ). IsTrace t line.stops_on_error found events) (sym is_text)
+    (subst (λ (d : Database). IsTrace (script_text over.script) line.stops_on_error d events) (sym same)
+    (subst (λ (l : Asked). IsTrace (script_text over.script) l.stops_on_error db events) one
+    (script_due over.script over.line.stops_on_error db events is_script over.due)))
+
+-- ---- counts
+
+-- a count that rose later rose since an earlier time
+pub rises_on : (a b d : ℕ) → a ≤ b → b ≤ d → Rises b d → Rises a d
+rises_on a b d h k rises below =
+    ⊎_elim (λ same. let low : b < 2 ^ 64 - 1 = omega (arith, same, below) in let rose = rises low in omega (arith, same, rose)) (λ less. omega (arith, less, k)) (eq-or-lt_of_le h)
+
+-- ---- a store that is left alone
+
+pub attached_untouched : {T : Type 0} (a b d : View) (name : List ℕ) (result : Result T Failed) → a.told → Calls (with_attached name a) b result → Keeps a b → Untouched b d → Untouched a d
+attached_untouched a b d name result told call keeps rest = record {
+  seen = rest.seen ∙ keeps.seen;
+  now = λ c left. keeps.crash c (rest.now c left);
+  time = let first = call.time told in
+      goes_on a b d (λ p c. (p ≡ a.printed) × b.may_leave c) (λ p c. b.may_leave c) (λ p c. a.may_leave c)
+      (record { later = first.later; nothing_else = first.nothing_else; keeps = first.keeps }) rest.time (λ p c is. keeps.crash c is.1) (λ p c is. keeps.crash c is);
+}
+
+pub says_nothing : (a b : View) (name : List ℕ) → IsLawful a → a.told → Runs (with_attached name a) b (StartPair a) → Untouched a b → OnlySays [] a b
+says_nothing a b name lawful told first untouched = record {
+  untouched = untouched;
+  front = λ p c left.
+      let it = each a b (StartPair a) lawful (since_attach name a b (StartPair a) first told) (λ i now. record { printed = refl; opened = inl now; area_b = (i, now, refl) }) p c left in
+      ([], ([], refl), it.printed ∙ sym (append-nil a.printed));
+}
+
+-- ---- a last line
+
+-- a line that is said over files that open to a database goes along that event
+pub says_along : (a d : View) (line : List ℕ) (ending result : Ending) (db : Database) → SaysLast line ending a d result → (a.told → (c : Image) → a.may_leave c → opens c ≡ Ok db)
+    → Runs a d (AlongFrom a.printed (Said line ∷ []) db)
+says_along a d line ending result db says all_open = record {
+  continues = says.continues;
+  synced = λ told. ([], (says.images told).synced ∙ sym (append-nil a.synced));
+  time = λ told. weaker a d _ (AlongFrom a.printed (Said line ∷ []) db) (says.time told) (λ p c is. (is.0.0, is.0.2, inl (is.0.1, all_open told c is.1)));
+}
+
+pub says_done : (a d : View) (line : List ℕ) (ending result : Ending) (db : Database) → SaysLast line ending a d result → a.told → result ≢ Say → ((c : Image) → a.may_leave c → opens c ≡ Ok db)
+    → Done a d (Said line ∷ []) db
+says_done a d line ending result db says told other all_open = record {
+  printed = says.whole told other ∙ ap (λ (l : List ℕ). a.printed ++ l) (sym (append-nil line));
+  opens_to = λ c left. all_open c ((says.images told).crash c left);
+}
+
+pub not_memory : (e : Ending) (X : Type 0) → e ≡ Memory → (e ≡ Refused) ⊎ ((e ≡ Say) × X) → ⊥
+not_memory e X is (inl refused) = cc
+not_memory e X is (inr say) = let other = say.0 in cc
+
+-- ---- area B
+
+pub area_b_said : (a d : View) (line : List ℕ) (ending result : Ending) → a.told → SaysLast line ending a d result → KeepsAreaB a d
+area_b_said a d line ending result told says = area_b_kept a d (λ p. (said : List ℕ) × IsPrefix said line × (p ≡ a.printed ++ said)) (says.images told) (says.time told)
+
+pub area_b_started : (a d : View) (name : List ℕ) → a.told → Runs (with_attached name a) d (StartPair a) → d.seen.b ≡ a.seen.b → KeepsAreaB a d
+area_b_started a d name told run reads = record {
+  reads = reads;
+  time = weaker a d (StartPair a) (λ p c. KeepsB a c) (since_attach name a d (StartPair a) run told) (λ p c is. is.area_b);
+}
+
+-- ---- the store is attached, and then opened
+
+pub attached_start : {T : Type 0} (a b d : View) (name : List ℕ) (result : Result T Failed) → Calls (with_attached name a) b result → (a.told → Keeps a b) → Runs b d (StartPair b) → Runs (with_attached name a) d (StartPair a)
+attached_start a b d name result call keeps run = runs_on (with_attached name a) b d (λ p c. (p ≡ a.printed) × b.may_leave c) (StartPair b) (StartPair a) (from_call (with_attached name a) b result call) run
+    (λ told p c is. let k = keeps told in record { printed = is.0; opened = inl (k.crash c is.1); area_b = (c, k.crash c is.1, refl) })
+    (λ told p c is. let k = keeps told in record {
+      printed = is.printed ∙ call.printed told;
+      opened = ⊎_elim (λ was. inl (k.crash c was)) (λ same. inr (same ∙ ap opens k.seen)) is.opened;
+      area_b = (is.area_b.0, k.crash is.area_b.0 is.area_b.1, is.area_b.2);
+    })
+
+-- ---- why a run ends, by why its script does
+
+pub cause_of : (e : Ending) (words : List Word) (a b d : View) (left : Option (List ℕ)) (before after : ℕ) (text : List ℕ) (line : Asked) (found : Database)
+    → ScriptEnd e b d text line.stops_on_error found → asked words ≡ Some line → IsStored a → IsWhole left
+    → ((db : Database) (events : List Event) (over : Over words a left db events) → IsTrace text line.stops_on_error found events)
+    → a.disk_faults ≤ b.disk_faults → b.disk_faults ≤ d.disk_faults → a.say_faults ≤ b.say_faults → b.say_faults ≤ d.say_faults
+    → HasCause e words a d left before after
+cause_of Whole words a b d left before after text line found ends asks stored whole due d1 d2 s1 s2 =
+    ((line, asks), stored, whole, λ db events over. ap (λ (l : Asked). l.stops_on_error && is_failed events) (one_asked (asked words) over.line line over.asks asks) ∙ (ends events (due db events over)).1)
+cause_of AtError words a b d left before after text line found ends asks stored whole due d1 d2 s1 s2 =
+    ((line, asks), stored, whole, λ db events over. ap (λ (l : Asked). l.stops_on_error && is_failed events) (one_asked (asked words) over.line line over.asks asks) ∙ (ends events (due db events over)).1)
+cause_of Disk words a b d left before after text line found ends asks stored whole due d1 d2 s1 s2 = ((line, asks), rises_on _ _ _ d1 d2 ends)
+cause_of Say words a b d left before after text line found ends asks stored whole due d1 d2 s1 s2 = (λ is_line. stored, rises_on _ _ _ s1 s2 ends)
+cause_of Memory words a b d left before after text line found ends asks stored whole due d1 d2 s1 s2 = tt
+cause_of Usage words a b d left before after text line found ends asks stored whole due d1 d2 s1 s2 = absurd ends
+cause_of Source words a b d left before after text line found ends asks stored whole due d1 d2 s1 s2 = absurd ends
+cause_of Damaged words a b d left before after text line found ends asks stored whole due d1 d2 s1 s2 = absurd ends
+cause_of Refused words a b d left before after text line found ends asks stored whole due d1 d2 s1 s2 = absurd ends
+
+-- what the script's end says is done, where the run ends with 0 or 3
+pub done_by : (e : Ending) (b d : View) (text : List ℕ) (stops : Bool) (found : Database) (events : List Event) → ScriptEnd e b d text stops found → b.told
+    → (e ≡ Whole) ⊎ ((e ≡ AtError) ⊎ (e ≡ Refused)) → IsTrace text stops found events → Done b d events found
+done_by Whole b d text stops found events ends told is traced = (ends events traced).0 told
+done_by AtError b d text stops found events ends told is traced = (ends events traced).0 told
+done_by Disk b d text stops found events ends told is traced = absurd (⊎_elim (λ one. cc) (λ more. ⊎_elim (λ two. cc) (λ three. cc) more) is)
+done_by Say b d text stops found events ends told is traced = absurd (⊎_elim (λ one. cc) (λ more. ⊎_elim (λ two. cc) (λ three. cc) more) is)
+done_by Memory b d text stops found events ends told is traced = absurd (⊎_elim (λ one. cc) (λ more. ⊎_elim (λ two. cc) (λ three. cc) more) is)
+done_by Usage b d text stops found events ends told is traced = absurd ends
+done_by Source b d text stops found events ends told is traced = absurd ends
+done_by Damaged b d text stops found events ends told is traced = absurd ends
+done_by Refused b d text stops found events ends told is traced = absurd ends

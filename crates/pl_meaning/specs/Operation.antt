@@ -1,0 +1,23 @@
+-- What the operations of a commit do to the database.
+use Rattle.std.specs.Prelude.{[], ◌∷◌, Option, Some, None, if◌then◌else◌}
+use Rattle.pl_base.specs.declared.operation.Op.{Op}
+use Rattle.pl_base.specs.declared.operation.Op.TheVariants.{Define, Put, Remove, Next}
+use Rattle.pl_base.specs.declared.types.Ty.TheVariants as type
+use Rattle.pl_codec.specs.Spelling.{is_row_id}
+use Rattle.pl_meaning.specs.declared.form.IntegerTable.{IntegerTable}
+use Rattle.pl_meaning.specs.Computed.{definition_in}
+use Rattle.pl_meaning.specs.Database.{Database, define, put}
+
+-- the new table of a definition, if there is one
+abbrev pub define_by : Option IntegerTable → Database → Option Database
+define_by (Some made) db = define made.table (record { name = made.column; ty = type.Int } ∷ []) db
+define_by None db = None
+
+-- The database after an operation; None where it doesn't apply. A Define holds the text of a CREATE TABLE: it makes the table that its
+-- text `Defines`, which is the one that `definition_in` computes (`one_definition`). Row ids are from 1 to 2^63 - 1. Rows aren't
+-- removed yet.
+abbrev pub apply : Op → Database → Option Database
+apply (Define text) db = define_by (definition_in text) db
+apply (Put table id row) db = if is_row_id id then put table id row db else None
+apply (Remove table id) db = None
+apply (Next table next) db = None

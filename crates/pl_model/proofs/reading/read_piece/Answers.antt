@@ -1,8 +1,0 @@
-use Rattle.pl_model.proofs.Readings.{read_so}
-use Rattle.pl_model.proofs.reading.read_piece.Goals as goal
-
-pub read_outcome-requires : goal.read_outcome-requires
-read_outcome-requires c = let p = c.requires.placed in record { placed = (p.0, c.args.piece.end, p.1.ends, p.1.tokens) }
-
-pub returns : goal.returns
-returns c = record { read = read_so c.args.text.now c.args.piece.tokens c.read_outcome.result c.read_outcome.ensures }

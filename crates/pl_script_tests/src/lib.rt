@@ -1,0 +1,16 @@
+//! Tests of the program's body: whole scripts over hosts in memory, what a crash leaves of them,
+//! and the words of command lines.
+#![tactic(auto)]
+
+#[cfg(test)]
+mod pieces;
+#[cfg(test)]
+mod refusals;
+#[cfg(test)]
+mod runs;
+#[cfg(test)]
+mod stops;
+#[cfg(test)]
+mod stores;
+#[cfg(test)]
+mod words;

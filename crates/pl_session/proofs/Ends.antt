@@ -1,0 +1,66 @@
+-- How a step ends.
+use Rattle.std.proofs.Common.{◌≡◌, ℕ, List, [], ◌∷◌, ◌++◌, Bool, true, false, Option, Some, Result, Ok, Err, IsErrAnd, refl, sym, ◌∙◌, ap, subst}
+use Rattle.std.specs.Prelude.{IfErr}
+use Rattle.std.proofs.lemmas.List.{append-nil}
+use Rattle.pl_base.specs.Image.{Image}
+use Rattle.pl_disk.specs.Disk.{View, Continues}
+use Rattle.pl_meaning.specs.Database.{Database}
+use Rattle.pl_meaning.specs.Meaning.{commits_or}
+use Rattle.pl_meaning.specs.Trace.{Event, Said, Failed, Committed}
+use Rattle.pl_session.specs.State.{database_in, Stores, IsReady}
+use Rattle.pl_session.specs.Steps.{StepEnd, StepCause}
+use Rattle.pl_session.specs.Tables.{Becomes}
+use Rattle.pl_session.specs.declared.halt.Stop.{Stop}
+use Rattle.pl_session.specs.declared.halt.Stop.TheVariants.{Memory}
+use Rattle.pl_session.specs.declared.state.SessionState.{SessionState}
+use Rattle.pl_session.proofs.Opens.{still_ready, stores_open}
+
+-- for want of memory nothing was done
+pub idle : (v : View) (why : Stop) → why ≡ Memory → StepCause v v why
+idle v why is = subst (λ (w : Stop). StepCause v v w) (sym is) (record { printed = λ told. refl; images = λ told c left. left })
+
+-- there was nothing to do
+pub nothing_done : (v : View) (state : SessionState) → IsReady v state → StepEnd v v state state [] (Ok false)
+nothing_done v state ready = (record { ready = ready; database = refl; printed = λ told. sym (append-nil v.printed) }, refl)
+
+module _ (a d : View) (before after : SessionState) (line : List ℕ) (ready : IsReady a before) (on : Continues a d)
+    (printed : a.told → d.printed ≡ a.printed ++ line) (open_still : after.failed ≡ before.failed) where
+  text_printed : a.told → d.printed ≡ a.printed ++ (line ++ [])
+  text_printed told = printed told ∙ ap (λ (l : List ℕ). a.printed ++ l) (sym (append-nil line))
+
+  module _ (events : List Event) where
+    -- a command failed
+    pub fails_done : Failed line ∷ [] ≡ events → (a.told → (c : Image) → d.may_leave c → a.may_leave c) → after.keeper ≡ before.keeper → database_in after ≡ database_in before
+        → StepEnd a d before after events (Ok true)
+    fails_done is fewer keeper db = subst (λ (es : List Event). StepEnd a d before after es (Ok true)) is
+        (record { ready = still_ready a d before after ready on fewer open_still keeper db; database = db; printed = text_printed }, refl)
+
+    -- a command was committed and answered
+    pub commits_done : (next : Database) → Committed next ∷ Said line ∷ [] ≡ events → (a.told → Stores d.may_leave after.keeper next) → database_in after ≡ next → StepEnd a d before after events (Ok false)
+    commits_done next is store db = subst (λ (es : List Event). StepEnd a d before after es (Ok false)) is (
+      record {
+        ready = record {
+          is_open = open_still ∙ ready.is_open;
+          opens_to = λ told c left. stores_open d.may_leave after.keeper (database_in after) (kept told) c left;
+          store = kept;
+        };
+        database = db;
+        printed = text_printed;
+      },
+      refl,
+    )
+      where
+        kept : d.told → Stores d.may_leave after.keeper (database_in after)
+        kept told = subst (λ (e : Database). Stores d.may_leave after.keeper e) (sym db) (store (on.told_before told))
+
+-- the events of a change that can't be made, and of one that can
+pub refuses : (reply error : List ℕ) (b : Bool) (db new : Database) (wanted : Option Database) → b ≡ false → Becomes b db new wanted → (Failed error ∷ [] ≡ commits_or reply error wanted) × (new ≡ db)
+refuses reply error b db new wanted is became = let none = subst (λ (x : Bool). Becomes x db new wanted) is became in (ap (λ (o : Option Database). commits_or reply error o) (sym none.0), none.1)
+
+pub makes : (reply error : List ℕ) (b : Bool) (db new : Database) (wanted : Option Database) → b ≡ true → Becomes b db new wanted → (Committed new ∷ Said reply ∷ [] ≡ commits_or reply error wanted) × (wanted ≡ Some new)
+makes reply error b db new wanted is became = let some = subst (λ (x : Bool). Becomes x db new wanted) is became in (ap (λ (o : Option Database). commits_or reply error o) (sym some), some)
+
+-- an error that is passed on
+pub if_err : {T E : Type 0} (P : E → Type 0) (r : Result T E) (e : E) → IsErrAnd r (λ x. x ≡ e) → P e → IfErr r P
+if_err P (Ok x) e is holds = tt
+if_err P (Err x) e is holds = subst P (sym is) holds

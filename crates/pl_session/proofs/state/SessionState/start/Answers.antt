@@ -1,0 +1,44 @@
+use Rattle.std.proofs.Common.{refl}
+use Rattle.pl_keeper.specs.Store.{all_stored}
+use Rattle.pl_session.proofs.Begins.{starts, settles, start_failed, fold_failed, is_used, started}
+use Rattle.pl_session.proofs.state.SessionState.start.Goals as goal
+
+pub returns-in_err-keeper-clause-moments : goal.returns-in_err-keeper-clause-moments
+returns-in_err-keeper-clause-moments g c = starts _ _ c.recover.ensures.writes
+
+pub returns-in_err-keeper-clause-settled : goal.returns-in_err-keeper-clause-settled
+returns-in_err-keeper-clause-settled g c told = settles _ _ (c.recover.ensures.settled told)
+
+pub returns-in_err-keeper-clause-cause : goal.returns-in_err-keeper-clause-cause
+returns-in_err-keeper-clause-cause g c =
+    start_failed (g.H.Disk.view c.args.host.now) (g.H.Disk.view c.recover.new.disk) c.in_err-keeper.field-0.0 c.from_residual.result c.from_residual.ensures.1 c.in_err-keeper.ensures.cause
+
+pub returns-in_err-keeper-clause-untouched : goal.returns-in_err-keeper-clause-untouched
+returns-in_err-keeper-clause-untouched g c told damage is = c.recover.ensures.untouched told (is_used _ damage is)
+
+pub returns-in_err-tables-clause-moments : goal.returns-in_err-tables-clause-moments
+returns-in_err-tables-clause-moments g c = starts _ _ c.recover.ensures.writes
+
+pub returns-in_err-tables-clause-settled : goal.returns-in_err-tables-clause-settled
+returns-in_err-tables-clause-settled g c told = settles _ _ (c.recover.ensures.settled told)
+
+pub returns-in_err-tables-clause-cause : goal.returns-in_err-tables-clause-cause
+returns-in_err-tables-clause-cause g c =
+    fold_failed (g.H.Disk.view c.args.host.now) (g.H.Disk.view c.recover.new.disk) c.in_ok-keeper.keeper (all_stored c.in_ok-keeper.batches.items) c.in_ok-keeper.ensures.recovered c.in_err-tables.field-0.0 c.in_err-tables.ensures
+    c.from_residual-in_err-tables.result c.from_residual-in_err-tables.ensures.1
+
+pub returns-in_err-tables-clause-untouched : goal.returns-in_err-tables-clause-untouched
+returns-in_err-tables-clause-untouched g c told damage is = c.recover.ensures.untouched told (is_used _ damage is)
+
+pub returns-clause-moments : goal.returns-clause-moments
+returns-clause-moments g c = starts _ _ c.recover.ensures.writes
+
+pub returns-clause-settled : goal.returns-clause-settled
+returns-clause-settled g c told = settles _ _ (c.recover.ensures.settled told)
+
+pub returns-clause-started : goal.returns-clause-started
+returns-clause-started g c =
+    started _ _ _ (all_stored c.in_ok-keeper.batches.items) (λ t. c.recover.ensures.writes.moments.continues.told_before t) c.in_ok-keeper.ensures.recovered refl c.in_ok-tables.ensures
+
+pub returns-clause-untouched : goal.returns-clause-untouched
+returns-clause-untouched g c told damage is = c.recover.ensures.untouched told (is_used _ damage is)

@@ -1,0 +1,63 @@
+-- How a call of a session ends.
+use Rattle.std.specs.Prelude.{◌≡◌, ◌++◌, List, Bool, true, false, Some, Ok}
+use Rattle.pl_base.specs.Image.{Image}
+use Rattle.pl_disk.specs.Disk.{View, Runs, Rises}
+use Rattle.pl_lex.specs.Characters.{Text}
+use Rattle.pl_meaning.specs.Covered.{AlongFrom}
+use Rattle.pl_meaning.specs.Database.{Database}
+use Rattle.pl_meaning.specs.Meaning.{AreOfFirst, IsTrace}
+use Rattle.pl_meaning.specs.Opening.{opens}
+use Rattle.pl_meaning.specs.Trace.{Event, text, last_commit}
+use Rattle.pl_session.specs.State.{database_in, IsReady}
+use Rattle.pl_session.specs.declared.halt.Ended.{Ended}
+use Rattle.pl_session.specs.declared.halt.Ended.TheVariants.{Whole, AtError}
+use Rattle.pl_session.specs.declared.halt.Halt.{Halt}
+use Rattle.pl_session.specs.declared.halt.Halt.TheVariants.{Closed, Stopped}
+use Rattle.pl_session.specs.declared.halt.Outcome.{Outcome}
+use Rattle.pl_session.specs.declared.halt.Outcome.TheVariants.{Fine, Errored}
+use Rattle.pl_session.specs.declared.halt.Stop.{Stop}
+use Rattle.pl_session.specs.declared.halt.Stop.TheVariants.{Disk, Say, Memory}
+use Rattle.pl_session.specs.declared.state.SessionState.{SessionState}
+
+-- this holds of the events of a script from a database on
+abbrev pub OfTrace : Text → (stops : Bool) → Database → (List Event → Type 0) → Type 0
+OfTrace script stops db P = (events : List Event) → IsTrace script stops db events → P events
+
+-- at each moment of a call, what it printed so far and what a crash then leaves go along these events
+abbrev pub RunsAlong : View → View → List Event → Database → Type 0
+RunsAlong old new events db = Runs old new (AlongFrom old.printed events db)
+
+-- After Ok: the events are printed to the end, and the session is ready with the database of their last commit.
+pub record Done (old new : View) (before after : SessionState) (events : List Event) : Type 0 where
+  pub ready : IsReady new after
+  pub database : database_in after ≡ last_commit events (database_in before)
+  pub printed : old.told → new.printed ≡ old.printed ++ text events
+
+-- These events and nothing of a later one: their text is printed, and each crash leaves files that open to their last commit.
+pub record StopsAfter (old new : View) (events : List Event) (db : Database) : Type 0 where
+  pub printed : old.told → new.printed ≡ old.printed ++ text events
+  pub opens_to : old.told → (c : Image) → new.may_leave c → opens c ≡ Ok (last_commit events db)
+
+-- Why a session stopped, a line a reason: the count of the disk's failures rose; that of the output's did; there was no memory, and
+-- then a whole number of the script's pieces is done and nothing of the next one.
+abbrev pub StopsBy : View → View → Text → (stops : Bool) → Database → Stop → Type 0
+StopsBy old new script stops db Disk = Rises old.disk_faults new.disk_faults
+StopsBy old new script stops db Say = Rises old.say_faults new.say_faults
+StopsBy old new script stops db Memory = (events : List Event) × AreOfFirst script stops db events × StopsAfter old new events db
+
+-- Why a call did not run to its end, a line an ending: the session had stopped before, and nothing was done; or it stopped now, and is
+-- closed from then on.
+abbrev pub HasCause : {H : Type 0} → (view : H → View) → (old new : H) → (before after : SessionState) → Text → (stops : Bool) → Halt → Type 0
+HasCause view old new before after script stops (Closed why) = (before.failed ≡ Some why) × (new ≡ old) × (after ≡ before)
+HasCause view old new before after script stops (Stopped why) =
+    (after.failed ≡ Some why) × StopsBy (view old) (view new) script stops (database_in before) why
+
+-- a command ended so, by whether it failed
+abbrev pub outcome_of : Bool → Outcome
+outcome_of true = Errored
+outcome_of false = Fine
+
+-- a script ended so, by whether it stopped at an error
+abbrev pub ended_of : Bool → Ended
+ended_of true = AtError
+ended_of false = Whole

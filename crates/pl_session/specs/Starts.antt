@@ -1,0 +1,33 @@
+-- What opening a store does, and why it may not be done.
+use Rattle.std.specs.Prelude.{◌≡◌, ◌⊎◌, ◌++◌, ◌∷◌, ℕ, List, Ok, Err}
+use Rattle.pl_base.specs.Image.{Image}
+use Rattle.pl_disk.specs.Disk.{View, Rises}
+use Rattle.pl_keeper.specs.Store.{KeepsB}
+use Rattle.pl_meaning.specs.Opening.{opens}
+use Rattle.pl_session.specs.State.{database_in, IsReady}
+use Rattle.pl_session.specs.declared.halt.StartFail.{StartFail}
+use Rattle.pl_session.specs.declared.halt.StartFail.TheVariants.{Disk, Damaged, Memory}
+use Rattle.pl_session.specs.declared.state.SessionState.{SessionState}
+
+-- nothing more is printed, an image is one from before or opens as what reads give, and its area B is that of an image from before
+pub record StartPair (v : View) (p : List ℕ) (c : Image) : Type 0 where
+  pub printed : p ≡ v.printed
+  pub opened : v.may_leave c ⊎ (opens c ≡ opens v.seen)
+  pub area_b : KeepsB v c
+
+-- nothing more is printed, and an image opens as what reads give
+abbrev pub OpensSame : View → List ℕ → Image → Type 0
+OpensSame v p c = (p ≡ v.printed) × (opens c ≡ opens v.seen)
+
+-- After Ok: a sync succeeded, and the session is ready with the database that the files opened to.
+pub record IsStarted (old new : View) (state : SessionState) : Type 0 where
+  pub ready : IsReady new state
+  pub opened : old.told → opens old.seen ≡ Ok (database_in state)
+  pub synced : old.told → (t : ℕ) × (later : List ℕ) × (new.synced ≡ old.synced ++ t ∷ later)
+
+-- Why a store wasn't opened, a line an ending: the count of the disk's failures rose; the files open to nothing, and this is the
+-- place; there was no memory.
+abbrev pub HasStartCause : View → View → StartFail → Type 0
+HasStartCause old new Disk = Rises old.disk_faults new.disk_faults
+HasStartCause old new (Damaged area at) = old.told → opens old.seen ≡ Err (record { area = area; at = at })
+HasStartCause old new Memory = Unit {0}

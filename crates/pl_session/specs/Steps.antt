@@ -1,0 +1,44 @@
+-- What the parts of a call do.
+use Rattle.std.specs.Prelude.{◌≡◌, [], List, Bool, Result, Ok, Err}
+use Rattle.pl_base.specs.Image.{Image}
+use Rattle.pl_base.specs.declared.area.Area.TheVariants.{A}
+use Rattle.pl_disk.specs.Disk.{View, Rises}
+use Rattle.pl_keeper.specs.Batches.{Stored}
+use Rattle.pl_meaning.specs.Database.{Database}
+use Rattle.pl_meaning.specs.Opening.{apply_batches, opens}
+use Rattle.pl_meaning.specs.Trace.{Event, is_failed}
+use Rattle.pl_session.specs.Endings.{Done}
+use Rattle.pl_session.specs.Tables.{database_of}
+use Rattle.pl_session.specs.declared.halt.StartFail.{StartFail}
+use Rattle.pl_session.specs.declared.halt.StartFail.TheVariants.{Disk as DiskFailed, Damaged, Memory as NoMemory}
+use Rattle.pl_session.specs.declared.halt.Stop.{Stop}
+use Rattle.pl_session.specs.declared.halt.Stop.TheVariants.{Disk, Say, Memory}
+use Rattle.pl_session.specs.declared.state.SessionState.{SessionState}
+use Rattle.pl_session.specs.declared.tables.Tables.{Tables}
+
+-- nothing was done: nothing more is printed, and a crash leaves nothing new
+pub record Idle (old new : View) : Type 0 where
+  pub printed : old.told → new.printed ≡ old.printed
+  pub images : old.told → (c : Image) → new.may_leave c → old.may_leave c
+
+-- why a step stopped: for want of memory it did nothing
+abbrev pub StepCause : View → View → Stop → Type 0
+StepCause old new Disk = Rises old.disk_faults new.disk_faults
+StepCause old new Say = Rises old.say_faults new.say_faults
+StepCause old new Memory = Idle old new
+
+-- how a step with these events ended: they are done, and the answer is whether it failed; or it stopped
+abbrev pub StepEnd : (old new : View) (before after : SessionState) → List Event → Result Bool Stop → Type 0
+StepEnd old new before after events (Ok failed) = Done old new before after events × (failed ≡ is_failed events)
+StepEnd old new before after events (Err why) = StepCause old new why
+
+-- every crash leaves files that open to this database
+abbrev pub AllOpen : View → Database → Type 0
+AllOpen v db = v.told → (c : Image) → v.may_leave c → opens c ≡ Ok db
+
+-- the tables are what the batches lead to, and `Damaged` comes exactly at the first batch that doesn't apply
+abbrev pub IsFolded : List Stored → Result Tables StartFail → Type 0
+IsFolded list (Ok tables) = apply_batches list [] ≡ Ok (database_of tables.list.items)
+IsFolded list (Err (Damaged area at)) = (area ≡ A) × (apply_batches list [] ≡ Err at)
+IsFolded list (Err DiskFailed) = ⊥
+IsFolded list (Err NoMemory) = Unit {0}
