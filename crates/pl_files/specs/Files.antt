@@ -1,13 +1,14 @@
--- What a host and a script over real files know: that the files are open, what failed, and whether a sync has something left to do.
+-- What a host and a script over real files know: that the files are open, what failed, and whether
+-- a sync has something left to do.
 use Rattle.std.specs.Prelude.{◌≡◌, ◌≢◌, ◌⊎◌, ℕ, List, Option, IsSome, IsSomeAnd, IfSome, string_bytes}
 use Rattle.pl_base.specs.declared.area.Area.{Area}
 use Rattle.pl_base.specs.declared.area.Area.TheVariants.{A, B}
+use Rattle.pl_disk.specs.Attached.{AreAttached}
 use Rattle.pl_disk.specs.Disk.{View, untold}
 use Rattle.pl_files.specs.declared.host.FileHost.{FileHost}
 use Rattle.pl_files.specs.declared.host.StoreFiles.{StoreFiles}
 use Rattle.pl_files.specs.declared.problem.Problem.{Problem}
 use Rattle.pl_files.specs.declared.source.FileSource.{FileSource}
-use Rattle.pl_files.specs.declared.source.ScriptFile.{ScriptFile}
 use Rattle.pl_files.specs.declared.store_file.StoreFile.{StoreFile}
 use Rattle.pl_files.specs.declared.store_file.Unsynced.TheVariants.{Nothing, Lost}
 
@@ -36,16 +37,20 @@ AwaitsIn B files = files.b.unsynced ≢ Nothing
 abbrev pub AreNamed : List ℕ → StoreFiles → Type 0
 AreNamed name files = string_bytes files.name ≡ name
 
--- What is known of the host: the name of the store that it holds, and how often it failed.
+-- What is known of the host: the names that it was given, and how often it failed.
 abbrev pub view_of : FileHost → View
 view_of host = record (untold host.disk_faults) {
-  named = λ name. IsSomeAnd host.files (AreNamed name);
+  attached = AreAttached host.attached;
   say_faults = host.say_faults;
 }
 
 -- The host holds both files, each open and locked.
-abbrev pub IsAttached : FileHost → Type 0
-IsAttached host = IsSome host.files
+abbrev pub HasFiles : FileHost → Type 0
+HasFiles host = IsSome host.files
+
+-- Those that it holds were opened under this name.
+abbrev pub Holds : List ℕ → FileHost → Type 0
+Holds name host = IsSomeAnd host.files (AreNamed name)
 
 -- What failed first of the disk, and what in printing.
 abbrev pub disk_problem_of : FileHost → Option Problem
@@ -65,6 +70,10 @@ HasLost host = IsSomeAnd host.files IsOneLost
 -- A file of the host has to be synced.
 abbrev pub Awaits : Area → FileHost → Type 0
 Awaits area host = IfSome host.files (AwaitsIn area)
+
+-- These names, in order, may be all that the source was given.
+abbrev pub names_of : FileSource → List (List ℕ) → Type 0
+names_of source = AreAttached source.attached
 
 -- The script is open.
 abbrev pub IsOpen : FileSource → Type 0

@@ -2,6 +2,7 @@
 //! claimed, only how often a call failed.
 #![tactic(auto)]
 
+mod front;
 mod host;
 mod problem;
 mod source;

@@ -33,6 +33,12 @@ pub enum Reason {
     NoRoom,
     /// The name is that of a folder, a pipe or a device.
     NotAFile,
+    /// The file has another name too.
+    Linked,
+    /// The file doesn't begin as that of a store does, and the other one isn't open.
+    NotAStore,
+    /// The name ends as that of a store's second file does.
+    SecondFile,
     /// The file is longer than 2^63 - 1 bytes.
     TooLong,
     /// No call of `attach` succeeded before.
@@ -72,8 +78,8 @@ impl Problem {
         }
     }
 
-    /// The problem as it is printed, in one line without its end. The name is that of the store or of
-    /// the script, as the user gave it; an empty one is printed as `''`.
+    /// The problem as it is printed, in one line without its end. The name is that of the store or
+    /// of the script, as the user gave it; an empty one is printed as `''`.
     pub fn named(self, name: &str) -> Named<'_> {
         Named {
             name,
@@ -133,6 +139,9 @@ impl Display for Reason {
             Reason::InUse => f.write_str("in use by another program"),
             Reason::NoRoom => f.write_str("no room left"),
             Reason::NotAFile => f.write_str("not an ordinary file"),
+            Reason::Linked => f.write_str("more than one hard link"),
+            Reason::NotAStore => f.write_str("not a store"),
+            Reason::SecondFile => f.write_str("the name of a store's second file"),
             Reason::TooLong => f.write_str("too long"),
             Reason::NotAttached => f.write_str("not opened"),
             Reason::Other(error) => write!(f, "{error}"),

@@ -1,13 +1,16 @@
 //! The script in a real file.
-ghost use Rattle.std.specs.Prelude.{◌≡◌, ◌≤◌, None, List, ℕ, length, IfOk, OnOk, IsOk, IsErr, IsSome, ◌↔◌, string_bytes};
+ghost use Rattle.std.specs.Prelude.{◌≡◌, ◌≤◌, ◌∷◌, ◌++◌, [], None, List, ℕ, length, IfOk, OnOk, IsOk, IsErr, IsSome, ◌↔◌, string_bytes};
 ghost use Rattle.pl_disk.specs.Disk.{Rises};
-ghost use Rattle.pl_files.specs.Files.{IsNamed, IsOpen, faults_of, problem_of};
+ghost use Rattle.pl_files.specs.Files.{names_of, IsNamed, IsOpen, faults_of, problem_of};
 
 use crate::problem::one_more;
 use crate::{Problem, Reason, Subject};
-use pl_disk::{Failed, Source};
+use pl_disk::{Attached, Failed, Source};
 use std::fs::File;
-use std::io::Read;
+use std::io::{ErrorKind, Read};
+
+/// How often a call is made that the system interrupts.
+const MOST_TRIES: u32 = 1000;
 
 // The file of a script, and the name that it was opened under.
 #[derive(Drop)]
@@ -20,6 +23,7 @@ struct ScriptFile {
 #[derive(Drop)]
 pub struct FileSource {
     rt: HostRuntime,
+    attached: Attached,
     script: Option<ScriptFile>,
     faults: u64,
     problem: Option<Problem>,
@@ -28,12 +32,14 @@ pub struct FileSource {
 impl FileSource {
     /// A script that has no file yet: each `take` fails until `attach` succeeded.
     pub fn new(rt: HostRuntime) -> FileSource
+        ensures attached { names_of result [] }
         ensures faults { faults_of result ≡ 0 }
         ensures no_file { IsOpen result → ⊥ }
         ensures no_problem { problem_of result ≡ None }
     {
         FileSource {
             rt,
+            attached: Attached::Nothing,
             script: None,
             faults: 0,
             problem: None,
@@ -51,6 +57,7 @@ impl FileSource {
     fn fail(&mut self, reason: Reason) -> Failed
         ensures no_fewer { faults_of self.old ≤ faults_of self.new }
         ensures rises { Rises (faults_of self.old) (faults_of self.new) }
+        ensures attached { self.new.attached ≡ self.old.attached }
         ensures script { self.new.script ≡ self.old.script }
         ensures noted { IsSome (problem_of self.new) }
     {
@@ -78,24 +85,33 @@ impl ScriptFile {
         ensures within { IfOk result (λ n. n ≤ length into.old) }
         ensures name { self.new.name ≡ self.old.name }
     {
-        Ok(self.file.read(into)?)
+        for _ in 0..MOST_TRIES {
+            match self.file.read(into) {
+                Err(error) if error.kind() == ErrorKind::Interrupted => {}
+                answer => return Ok(answer?),
+            }
+        }
+        Err(Reason::Other(ErrorKind::Interrupted.into()))
     }
 }
 
 impl Source for FileSource {
     ghost left = { λ _. None };
 
-    ghost named = { IsNamed };
+    ghost attached = { names_of };
 
     ghost faults = { faults_of };
 
     fn attach(&mut self, script: &str) -> Result<(), Failed>
+        ensures attached { (names : List (List ℕ)) → names_of self.old names
+            → names_of self.new (names ++ script.now ∷ []) }
         ensures named { OnOk result (IsNamed self.new script.now) }
         ensures faults { faults_of self.old ≤ faults_of self.new }
         ensures cause { IsErr result → Rises (faults_of self.old) (faults_of self.new) }
-        ensures attached { IsOk result ↔ IsOpen self.new }
+        ensures opened { IsOk result ↔ IsOpen self.new }
         ensures noted { IsErr result → IsSome (problem_of self.new) }
     {
+        self.attached.add(self.rt.alloc(), script);
         self.script = None;
         match ScriptFile::take(&self.rt, script) {
             Ok(script) => {
@@ -107,11 +123,13 @@ impl Source for FileSource {
     }
 
     fn take(&mut self, into: &mut [u8]) -> Result<usize, Failed>
+        ensures attached { (names : List (List ℕ)) → names_of self.old names
+            → names_of self.new names }
         ensures named { (name : List ℕ) → IsNamed self.old name → IsNamed self.new name }
         ensures within { IfOk result (λ n. n ≤ length into.old) }
         ensures faults { faults_of self.old ≤ faults_of self.new }
         ensures cause { IsErr result → Rises (faults_of self.old) (faults_of self.new) }
-        ensures attached { IsOk result → IsOpen self.old }
+        ensures opened { IsOk result → IsOpen self.old }
         ensures noted { IsErr result → IsSome (problem_of self.new) }
     {
         let answer = match &mut self.script {

@@ -3,11 +3,12 @@ ghost use Rattle.std.specs.Prelude.{◌≡◌, ◌≢◌, ◌+◌, ◌^◌, ◌<
 ghost use Rattle.pl_files.specs.Files.{IsSynced, IsLost};
 
 use crate::Reason;
-use std::fs::File;
-use std::io;
+use crate::front::{FRONT_LEN, Front};
+use std::fs::{self, File};
+use std::io::{self, ErrorKind};
 use std::os::fd::AsRawFd;
-use std::os::unix::fs::FileExt;
-use std::path::Path;
+use std::os::unix::fs::{FileExt, MetadataExt};
+use std::path::{Path, PathBuf};
 
 /// The greatest length of a file in bytes.
 const MAX_LEN: u64 = i64::MAX as u64;
@@ -53,19 +54,17 @@ pub struct StoreFile {
 
 impl StoreFile {
     /// Opens the file and locks it. An absent one is made. It fails where another program holds the
-    /// lock, and then the file stays as it is.
-    pub fn take(rt: &HostRuntime, path: &str) -> Result<StoreFile, Reason>
-        ensures { IfOk result (λ file. file.unsynced ≡ Unsynced.Length) }
-    {
+    /// lock, or the file has more than one name, and then it stays as it is.
+    pub fn take(rt: &HostRuntime, path: &str) -> Result<StoreFile, Reason> {
         let file = open(rt, path)?;
         file.try_lock()?;
         let found = file.metadata()?;
         if !found.is_file() {
             return Err(Reason::NotAFile);
         }
-        // A file is empty until its name is settled: nothing is written before.
-        if found.len() == 0 {
-            sync_folder(rt, path)?;
+        // Under its other name the second file of the store would be another one.
+        if found.nlink() > 1 {
+            return Err(Reason::Linked);
         }
         Ok(StoreFile {
             file,
@@ -83,6 +82,19 @@ impl StoreFile {
             return Err(Reason::TooLong);
         }
         Ok(len)
+    }
+
+    /// What its first bytes tell.
+    pub fn front(&self) -> Result<Front, Reason> {
+        let len = self.len()?;
+        let mut bytes = [0; FRONT_LEN];
+        let known = if len < FRONT_LEN as u64 {
+            len as usize
+        } else {
+            FRONT_LEN
+        };
+        self.read_at(0, &mut bytes[..known])?;
+        Ok(Front::of(len, &bytes[..known]))
     }
 
     /// Fills the buffer with the bytes from `at` on. It fails where the file ends before.
@@ -138,11 +150,22 @@ fn open(rt: &HostRuntime, path: &str) -> io::Result<File> {
     Ok(file)
 }
 
-// Settles the file's name.
-fn sync_folder(rt: &HostRuntime, path: &str) -> io::Result<()> {
+/// The path with no link in it. Where a link leads to no file, or none is there, one is made.
+pub(crate) fn resolve(rt: &HostRuntime, path: &str) -> io::Result<PathBuf> {
+    match fs::canonicalize(rt, path) {
+        Err(error) if error.kind() == ErrorKind::NotFound => {
+            open(rt, path)?;
+            fs::canonicalize(rt, path)
+        }
+        found => found,
+    }
+}
+
+/// Settles the names in the folder of this file.
+pub(crate) fn sync_folder(rt: &HostRuntime, path: &str) -> io::Result<()> {
     let folder = match Path::new(path).parent() {
-        Some(folder) if !folder.as_str().is_empty() => folder.as_str(),
-        _ => ".",
+        Some(folder) => folder.as_str(),
+        None => "/",
     };
     File::open(rt, folder)?.sync_all()
 }
