@@ -15,8 +15,9 @@ mod types;
 
 pub use answer::CalcFail;
 pub use casts::{assign, cast};
-pub use comparison::compare;
-pub use functions::{Builtin, function, function_named};
+pub use comparison::{compare, is_distinct};
+pub use functions::{Builtin, apply, function, function_named};
+pub use numbers::whole;
 pub use operators::{binary, unary};
 pub use pl_base::{Arithmetic, Comparison, Operator, Test};
 pub use types::{type_of_nullif, type_of_op, unite};
