@@ -1,5 +1,5 @@
--- One level of each tree of expressions and queries. A definition over whole trees is a fold: it says
--- what a level means once its parts have their meanings.
+-- One level of each tree of expressions and queries. A definition over whole trees is a fold: it
+-- says what a level means once its parts have their meanings.
 use Rattle.pl_tree.specs.declared.tree.Argument.TheOpen.{Argument-F, Expr-F, From-F, Item-F}
 use Rattle.pl_tree.specs.declared.tree.Argument.TheOpen.{Arm-F, Factor-F, Join-F, Key-F}
 use Rattle.pl_tree.specs.declared.tree.Argument.TheOpen.{Query-F, Term-F}
@@ -14,8 +14,8 @@ use Rattle.pl_tree.specs.declared.tree.Key.{Key, fold-Key}
 use Rattle.pl_tree.specs.declared.tree.Query.{Query, fold-Query}
 use Rattle.pl_tree.specs.declared.tree.Term.{Term, fold-Term}
 
--- what the parts of each kind mean: arguments, expressions, FROM, items, arms, factors, joins, order
--- keys, queries, terms
+-- what the parts of each kind mean: arguments, expressions, FROM, items, arms, factors, joins,
+-- order keys, queries, terms
 module _ (A E F I R C J K Q T : Type 0) where
   abbrev pub ArgumentLayer : Type 0
   ArgumentLayer = Argument-F A E F I R C J K Q T
