@@ -1,1 +1,4 @@
 pub mod Spelled
+pub mod ReadsBack
+pub mod ReadSoFar
+pub mod Pushed
