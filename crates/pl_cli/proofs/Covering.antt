@@ -10,10 +10,11 @@ use Rattle.pl_meaning.specs.Database.{Database}
 use Rattle.pl_meaning.proofs.Lent.{covered, start}
 use Rattle.pl_meaning.specs.Opening.{opens}
 use Rattle.pl_meaning.specs.Trace.{Event, last_commit, text}
+use Rattle.pl_session.specs.Endings.{Done}
 use Rattle.pl_session.specs.Starts.{IsStarted, OpensSame, StartPair}
 use Rattle.pl_session.specs.declared.state.SessionState.{SessionState}
 use Rattle.pl_cli.specs.Covers.{CoveredPair, CoveredRun, LeftBy}
-use Rattle.pl_cli.specs.Runs.{Done, NotBegun}
+use Rattle.pl_cli.specs.Runs.{NotBegun}
 
 -- no sync succeeded
 pub not_settled : (a b : View) (P : List ℕ → Image → Type 0) → b.synced ≡ a.synced → Settled a b P

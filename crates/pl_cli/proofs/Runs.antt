@@ -9,18 +9,20 @@ use Rattle.pl_disk.specs.declared.device.Failed.{Failed}
 use Rattle.pl_keeper.specs.Store.{KeepsB}
 use Rattle.pl_meaning.specs.Covered.{AlongFrom}
 use Rattle.pl_meaning.specs.Database.{Database}
-use Rattle.pl_meaning.specs.Meaning.{IsTrace}
+use Rattle.pl_meaning.specs.Meaning.{AreOfFirst, IsTrace}
 use Rattle.pl_meaning.specs.Opening.{opens}
-use Rattle.pl_meaning.specs.Trace.{Event, Said, is_failed}
+use Rattle.pl_meaning.specs.Trace.{Event, Said, is_failed, text as text_of}
 use Rattle.pl_session.specs.Starts.{StartPair}
 use Rattle.pl_session.specs.AreaB.{KeepsAreaB}
+use Rattle.pl_session.specs.Endings.{Done, PrintsWhole}
 use Rattle.pl_session.specs.Lent.{area_b_kept}
 use Rattle.pl_cli.specs.Line.{Asked, Word, asked}
 use Rattle.pl_cli.specs.Parts.{SaysLast, ScriptEnd}
 use Rattle.pl_cli.specs.Printed.{refusal_line}
-use Rattle.pl_cli.specs.Runs.{Done, HasCause, IsDue, IsStored, IsWhole, OnlySays, Over}
+use Rattle.pl_cli.specs.Runs.{HasCause, IsDue, IsStored, IsWhole, OnlySays, Over}
 use Rattle.pl_cli.specs.Script.{IsFirst, IsRefusedAt, IsScript, Spoils, script_text}
 use Rattle.pl_cli.specs.declared.ending.Ending.{Ending}
+use Rattle.pl_cli.proofs.Traces.{none_yet}
 use Rattle.pl_cli.specs.declared.ending.Ending.TheVariants.{Whole, Usage, AtError, Disk, Source, Say, Damaged, Refused, Memory}
 
 -- ---- what is due
@@ -134,9 +136,9 @@ cause_of Whole words a b d left before after text line found ends asks stored wh
     ((line, asks), stored, whole, λ db events over. ap (λ (l : Asked). l.stops_on_error && is_failed events) (one_asked (asked words) over.line line over.asks asks) ∙ (ends events (due db events over)).1)
 cause_of AtError words a b d left before after text line found ends asks stored whole due d1 d2 s1 s2 =
     ((line, asks), stored, whole, λ db events over. ap (λ (l : Asked). l.stops_on_error && is_failed events) (one_asked (asked words) over.line line over.asks asks) ∙ (ends events (due db events over)).1)
-cause_of Disk words a b d left before after text line found ends asks stored whole due d1 d2 s1 s2 = ((line, asks), rises_on _ _ _ d1 d2 ends)
+cause_of Disk words a b d left before after text line found ends asks stored whole due d1 d2 s1 s2 = ((line, asks), rises_on _ _ _ d1 d2 ends.0)
 cause_of Say words a b d left before after text line found ends asks stored whole due d1 d2 s1 s2 = (λ is_line. stored, rises_on _ _ _ s1 s2 ends)
-cause_of Memory words a b d left before after text line found ends asks stored whole due d1 d2 s1 s2 = tt
+cause_of Memory words a b d left before after text line found ends asks stored whole due d1 d2 s1 s2 = inl (line, asks)
 cause_of Usage words a b d left before after text line found ends asks stored whole due d1 d2 s1 s2 = absurd ends
 cause_of Source words a b d left before after text line found ends asks stored whole due d1 d2 s1 s2 = absurd ends
 cause_of Damaged words a b d left before after text line found ends asks stored whole due d1 d2 s1 s2 = absurd ends
@@ -154,3 +156,33 @@ done_by Usage b d text stops found events ends told is traced = absurd ends
 done_by Source b d text stops found events ends told is traced = absurd ends
 done_by Damaged b d text stops found events ends told is traced = absurd ends
 done_by Refused b d text stops found events ends told is traced = absurd ends
+
+-- ---- what is printed where the disk failed
+
+pub prints_whole : (e : Ending) (b d : View) (script : List ℕ) (stops : Bool) (found : Database) → ScriptEnd e b d script stops found → e ≡ Disk → PrintsWhole b d script stops found
+prints_whole Disk b d script stops found ends is = ends.1
+prints_whole Whole b d script stops found ends is = absurd (cc)
+prints_whole AtError b d script stops found ends is = absurd (cc)
+prints_whole Say b d script stops found ends is = absurd (cc)
+prints_whole Memory b d script stops found ends is = absurd (cc)
+prints_whole Usage b d script stops found ends is = absurd ends
+prints_whole Source b d script stops found ends is = absurd ends
+prints_whole Damaged b d script stops found ends is = absurd ends
+prints_whole Refused b d script stops found ends is = absurd ends
+
+-- what is printed behind the opening is all that is
+pub prints_since : (a b d : View) (script script' : List ℕ) (stops stops' : Bool) (found db : Database) → script ≡ script' → stops ≡ stops' → found ≡ db
+    → (a.told → b.printed ≡ a.printed) → (a.told → b.told) → PrintsWhole b d script stops found → PrintsWhole a d script' stops' db
+prints_since a b d script script' stops stops' found db same_script same_stops same printed told whole = (
+  whole.0,
+  subst (λ (s : List ℕ). AreOfFirst s stops' db whole.0) same_script
+      (subst (λ (f : Bool). AreOfFirst script f db whole.0) same_stops (subst (λ (e : Database). AreOfFirst script stops e whole.0) same whole.1)),
+  λ t. whole.2 (told t) ∙ ap (λ (l : List ℕ). l ++ text_of whole.0) (printed t),
+)
+
+pub none_printed : (a d : View) (script : List ℕ) (stops : Bool) (db : Database) → (a.told → d.printed ≡ a.printed) → PrintsWhole a d script stops db
+none_printed a d script stops db printed = ([], none_yet script stops db, λ told. printed told ∙ sym (append-nil a.printed))
+
+pub not_disk : (e : Ending) (X : Type 0) → e ≡ Disk → (e ≡ Refused) ⊎ ((e ≡ Say) × X) → ⊥
+not_disk e X is (inl refused) = cc
+not_disk e X is (inr say) = let other = say.0 in cc

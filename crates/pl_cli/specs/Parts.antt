@@ -4,10 +4,9 @@ use Rattle.pl_disk.specs.Disk.{View, Continues, Elapses, IsPrefix, Keeps, Rises}
 use Rattle.pl_meaning.specs.Database.{Database}
 use Rattle.pl_meaning.specs.Meaning.{AreOfFirst, IsTrace}
 use Rattle.pl_meaning.specs.Trace.{Event, is_failed}
-use Rattle.pl_session.specs.Endings.{StopsAfter}
+use Rattle.pl_session.specs.Endings.{Done, PrintsWhole}
 use Rattle.pl_cli.specs.declared.ending.Ending.{Ending}
 use Rattle.pl_cli.specs.declared.ending.Ending.TheVariants.{Whole, Usage, AtError, Disk, Source, Say, Damaged, Refused, Memory}
-use Rattle.pl_cli.specs.Runs.{Done}
 
 -- A run's last line is said, and it ends so; or with `Say`, where printing failed.
 pub record SaysLast (line : List ℕ) (ending : Ending) (old new : View)
@@ -26,10 +25,11 @@ ScriptEnd Whole old new script stops db = (events : List Event) → IsTrace scri
     → (old.told → Done old new events db) × ((stops && is_failed events) ≡ false)
 ScriptEnd AtError old new script stops db = (events : List Event) → IsTrace script stops db events
     → (old.told → Done old new events db) × ((stops && is_failed events) ≡ true)
-ScriptEnd Disk old new script stops db = Rises old.disk_faults new.disk_faults
+ScriptEnd Disk old new script stops db =
+    Rises old.disk_faults new.disk_faults × PrintsWhole old new script stops db
 ScriptEnd Say old new script stops db = Rises old.say_faults new.say_faults
 ScriptEnd Memory old new script stops db =
-    (events : List Event) × AreOfFirst script stops db events × StopsAfter old new events db
+    (events : List Event) × AreOfFirst script stops db events × (old.told → Done old new events db)
 ScriptEnd Usage old new script stops db = ⊥
 ScriptEnd Source old new script stops db = ⊥
 ScriptEnd Damaged old new script stops db = ⊥

@@ -6,7 +6,8 @@ use Rattle.pl_keeper.specs.Batches.{Damage}
 use Rattle.pl_meaning.specs.Database.{Database}
 use Rattle.pl_meaning.specs.Meaning.{AreOfFirst, IsTrace}
 use Rattle.pl_meaning.specs.Opening.{opens}
-use Rattle.pl_meaning.specs.Trace.{Event, Said, is_failed, last_commit, text}
+use Rattle.pl_meaning.specs.Trace.{Event, Said, is_failed}
+use Rattle.pl_session.specs.Endings.{Done}
 use Rattle.pl_cli.specs.Line.{Asked, Word, asked}
 use Rattle.pl_cli.specs.Printed.{refusal_line}
 use Rattle.pl_cli.specs.Script.{IsRefusedAt, IsScript, script_text}
@@ -67,14 +68,10 @@ HasCause Damaged words old new left before after =
 HasCause Refused words old new left before after =
     IsLine words × IsStored old
     × ((script : List ℕ) → left ≡ Some script → (at : ℕ) × IsRefusedAt script at)
-HasCause Memory words old new left before after = Unit {0}
+HasCause Memory words old new left before after =
+    IsLine words ⊎ (old.told → new.printed ≡ old.printed)
 
 -- ---- what it leaves
-
--- These events are done, and no other: all that they say is printed, and each crash leaves files that open to their last commit.
-pub record Done (old new : View) (events : List Event) (db : Database) : Type 0 where
-  pub printed : new.printed ≡ old.printed ++ text events
-  pub opens_to : (image : Image) → new.may_leave image → opens image ≡ Ok (last_commit events db)
 
 -- Nothing is done yet, and no sync of the run succeeded: a crash leaves files that one before might have left, or that open to the
 -- same database.

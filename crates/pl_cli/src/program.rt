@@ -7,7 +7,7 @@ ghost use Rattle.pl_meaning.specs.Database.{Database};
 ghost use Rattle.pl_meaning.specs.Opening.{opens};
 ghost use Rattle.pl_meaning.specs.Trace.{Event};
 ghost use Rattle.pl_session.specs.AreaB.{KeepsAreaB};
-ghost use Rattle.pl_session.specs.Endings.{OfTrace, RunsAlong};
+ghost use Rattle.pl_session.specs.Endings.{Done, OfTrace, PrintsWhole, RunsAlong};
 ghost use Rattle.pl_session.specs.Starts.{HasStartCause, IsStarted, OpensSame, StartPair};
 ghost use Rattle.pl_session.specs.State.{IsReady, database_in};
 ghost use Rattle.pl_cli.specs.Covers.{CoveredRun};
@@ -15,7 +15,8 @@ ghost use Rattle.pl_cli.specs.Endings.{status_of};
 ghost use Rattle.pl_cli.specs.Line.{asked};
 ghost use Rattle.pl_cli.specs.Parts.{SaysLast, ScriptEnd};
 ghost use Rattle.pl_cli.specs.Printed.{refusal_line, usage_line};
-ghost use Rattle.pl_cli.specs.Runs.{AttachesScript, AttachesStore, Done, HasCause, IsBetween, IsLine, OnlySays, Over};
+ghost use Rattle.pl_cli.specs.Runs.{AttachesScript, AttachesStore, HasCause, IsBetween, IsLine, OnlySays, Over};
+ghost use Rattle.pl_cli.specs.Script.{script_text};
 ghost use Rattle.pl_cli.specs.declared.ending.Ending.TheVariants as end;
 
 use crate::ending::Ending;
@@ -161,6 +162,12 @@ pub fn run<H: Host, S: Source>(
         → (H.view host.new).printed ≡ (H.view host.old).printed ++ usage_line }
     ensures words { asked (map string_bytes words.now) ≡ None → (H.view host.old).told
         → OnlySays usage_line (H.view host.old) (H.view host.new) }
+
+    // 4: no reply is printed in part.
+    ensures disk { result.ending ≡ end.Disk → (db : Database) (events : List Event)
+        → (over : Over (map string_bytes words.now) (H.view host.old) (S.left source.old) db events)
+        → PrintsWhole (H.view host.old) (H.view host.new) (script_text over.script)
+        over.line.stops_on_error db }
 
     // 5: no command was run.
     ensures source { result.ending ≡ end.Source → (db : Database) → (H.view host.old).told

@@ -38,6 +38,7 @@ const MAX_CHARACTER: usize = 4;
 
 // All that is left, or more of it than a script has.
 fn take_all<S: Source>(alloc: Global, source: &mut S) -> Result<Vec<u8>, ReadFail>
+    requires { S.is_attached source.old }
     ensures attached { (names : List (List ℕ)) → S.attached source.old names
         → S.attached source.new names }
     ensures read { (left : List ℕ) → S.left source.old ≡ Some left

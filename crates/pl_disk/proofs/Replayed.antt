@@ -47,7 +47,7 @@ not_ok P (Err e) err = tt
 -- what no call changes, where the counts don't fall
 kept_on : (names : List (List ℕ) → Type 0) (first files : Image) (printed : List ℕ) (notes : List Note) (files' : Image) (printed' : List ℕ) (later : List Note) (df sf df' sf' : ℕ) → df ≤ df' → sf ≤ sf'
     → Continues (view_of names first files printed notes df sf) (view_of names first files' printed' later df' sf')
-kept_on names first files printed notes files' printed' later df sf df' sf' disk say = record { attached = λ l is. is; told = λ t. t; told_before = λ t. t; disk_faults = disk; say_faults = say }
+kept_on names first files printed notes files' printed' later df sf df' sf' disk say = record { attached = λ l is. is; is_attached = λ is. is; told = λ t. t; told_before = λ t. t; disk_faults = disk; say_faults = say }
 
 module _ (first files : Image) (printed : List ℕ) (notes : List Note) where
   abbrev state : State

@@ -9,3 +9,7 @@ AreAttached Nothing names = names ≡ []
 AreAttached (Once name) names = names ≡ name.items ∷ []
 AreAttached Lost names = length names ≡ 1
 AreAttached More names = 2 ≤ length names
+
+-- Some name was given: none can't be all.
+abbrev pub IsGiven : (List (List ℕ) → Type 0) → Type 0
+IsGiven names = names [] → ⊥

@@ -15,8 +15,11 @@ use Rattle.pl_disk.specs.declared.device.Failed.{Failed}
 -- What is known of a host between two calls: its files and the names that it was given, what it printed, what a crash may leave
 -- or might have left, and how often it failed.
 pub record View : Type 1 where
-  -- these names, in order, are all that `attach` was given so far
+  -- these names, in order, may be all that `attach` was given so far: a host that can't tell two
+  -- lists of names apart says so of both
   pub attached : List (List ℕ) → Type 0
+  -- a fact: that a store is attached, so that its files may be read and written. `attach` gives it
+  pub is_attached : Type 0
   -- a fact: that the contents and moments are told. Of a host in memory it holds. Of one over real files it doesn't, and the
   -- clauses that begin with it say nothing of that host
   pub told : Type 0
@@ -46,10 +49,11 @@ pub record IsLawful (v : View) : Type 0 where
   -- and the only one since itself
   pub only_now : (p : List ℕ) (c : Image) → v.since v.moment p c → (p ≡ v.printed) × v.may_leave c
 
--- A view from before `attach`, as if this name were already there.
+-- A view from before `attach`, as if this name were already there. A store from before is let go.
 abbrev pub with_attached : List ℕ → View → View
 with_attached name before = record before {
   attached = λ names. (earlier : List (List ℕ)) × before.attached earlier × (names ≡ earlier ++ name ∷ []);
+  is_attached = ⊥;
 }
 
 -- Time goes on: what was true at some moment since t stays so, and each new pair of a text and files has P.
@@ -63,9 +67,11 @@ pub record Elapses (old new : View) (P : List ℕ → Image → Type 0) : Type 0
 abbrev pub Rises : ℕ → ℕ → Type 0
 Rises old new = old < 2 ^ 64 - 1 → old < new
 
--- What no call changes: the names that were attached, and whether the contents are told. And no count falls.
+-- What no call changes: the names that were attached, that a store is, and whether the contents are
+-- told. And no count falls.
 pub record Continues (old new : View) : Type 0 where
   pub attached : (names : List (List ℕ)) → old.attached names → new.attached names
+  pub is_attached : old.is_attached → new.is_attached
   pub told : old.told → new.told
   pub told_before : new.told → old.told
   pub disk_faults : old.disk_faults ≤ new.disk_faults
@@ -154,6 +160,7 @@ pub record Runs (old new : View) (P : List ℕ → Image → Type 0) : Type 0 wh
 abbrev pub untold : ℕ → View
 untold faults = record {
   attached = λ names. Unit {0};
+  is_attached = Unit {0};
   told = ⊥;
   seen = record { a = []; b = [] };
   may_leave = λ c. ⊥;

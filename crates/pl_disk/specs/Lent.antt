@@ -28,11 +28,12 @@ each a b P lawful time here p c left = ⊎_elim (λ before. let now = lawful.onl
 
 -- what no call changes, over none and over more than one
 pub no_call : (v : View) → Continues v v
-no_call v = record { attached = λ names is. is; told = λ t. t; told_before = λ t. t; disk_faults = omega arith; say_faults = omega arith }
+no_call v = record { attached = λ names is. is; is_attached = λ is. is; told = λ t. t; told_before = λ t. t; disk_faults = omega arith; say_faults = omega arith }
 
 pub continues_on : (a b d : View) → Continues a b → Continues b d → Continues a d
 continues_on a b d first second = record {
   attached = λ names is. second.attached names (first.attached names is);
+  is_attached = λ is. second.is_attached (first.is_attached is);
   told = λ t. second.told (first.told t);
   told_before = λ t. first.told_before (second.told_before t);
   disk_faults = omega (arith, first.disk_faults, second.disk_faults);

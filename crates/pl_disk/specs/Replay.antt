@@ -3,6 +3,7 @@ use Rattle.std.specs.Prelude.{◌≡◌, ◌⊎◌, ℕ, zero, suc, ◌+◌, Lis
 use Rattle.pl_base.specs.Image.{Image, file}
 use Rattle.pl_base.specs.declared.area.Area.{Area}
 use Rattle.pl_base.specs.declared.area.Area.TheVariants.{A, B}
+use Rattle.pl_disk.specs.Attached.{IsGiven}
 use Rattle.pl_disk.specs.declared.memory.files.Files.{Files}
 use Rattle.pl_disk.specs.declared.memory.note.Change.{Change}
 use Rattle.pl_disk.specs.declared.memory.note.Change.TheVariants.{Wrote, Synced, Said}
@@ -96,6 +97,7 @@ pub record IsKept (first files : Image) (printed : List ℕ) (notes : List Note)
 abbrev pub view_of : (List (List ℕ) → Type 0) → Image → Image → List ℕ → List Note → ℕ → ℕ → View
 view_of attached first files printed notes disk_faults say_faults = record {
   attached = attached;
+  is_attached = IsGiven attached;
   told = Unit {0};
   seen = files;
   may_leave = λ c. IsImage (replay (start first) notes) c;

@@ -1,6 +1,6 @@
 -- A script in memory.
 use Rattle.std.specs.Prelude.{ℕ, ◌≡◌, ◌≤◌, ◌↔◌, List, [], drop, Result, IsErr, OnOk, OnErr}
-use Rattle.pl_disk.specs.Attached.{AreAttached}
+use Rattle.pl_disk.specs.Attached.{AreAttached, IsGiven}
 use Rattle.pl_disk.specs.Tally.{IsListed, raised}
 use Rattle.pl_disk.specs.declared.device.Failed.{Failed}
 use Rattle.pl_disk.specs.declared.memory.script.MemorySource.{MemorySource}
@@ -23,6 +23,10 @@ script_faults s = s.faults
 -- The names that it was given.
 abbrev pub script_attached : MemorySource → List (List ℕ) → Type 0
 script_attached s = AreAttached s.attached
+
+-- It was given one.
+abbrev pub script_is_attached : MemorySource → Type 0
+script_is_attached s = IsGiven (script_attached s)
 
 -- A script of these bytes before the first call.
 pub record IsFreshScript (bytes fail : List ℕ) (s : MemorySource) : Type 0 where

@@ -15,12 +15,13 @@ pub enum Attached {
 }
 
 impl Attached {
-    ghost use Rattle.pl_disk.specs.Attached.{AreAttached};
+    ghost use Rattle.pl_disk.specs.Attached.{AreAttached, IsGiven};
 
     /// Takes one name more. Where there is no memory for it, it isn't kept.
     pub fn add(&mut self, alloc: Global, name: &str)
-        ensures { (names : List (List ℕ)) → AreAttached self.old names
+        ensures names { (names : List (List ℕ)) → AreAttached self.old names
             → AreAttached self.new (names ++ name.now ∷ []) }
+        ensures some { IsGiven (AreAttached self.new) }
     {
         *self = match self {
             Attached::Nothing => match name.as_bytes().to_vec(alloc) {
@@ -33,8 +34,9 @@ impl Attached {
 
     /// Takes one name more without keeping it.
     pub fn add_lost(&mut self)
-        ensures { (name : List ℕ) (names : List (List ℕ)) → AreAttached self.old names
+        ensures names { (name : List ℕ) (names : List (List ℕ)) → AreAttached self.old names
             → AreAttached self.new (names ++ name ∷ []) }
+        ensures some { IsGiven (AreAttached self.new) }
     {
         *self = match self {
             Attached::Nothing => Attached::Lost,

@@ -16,13 +16,15 @@ pub trait Disk {
     ghost view: { Self → View };
 
     /// Takes the store of this name, before any other call. It changes no bytes. The name counts as
-    /// attached after an error too.
+    /// given after an error too, but then no store is attached.
     fn attach(&mut self, store: &str) -> Result<(), Failed>
         ensures call { Calls (with_attached store.now (view self.old)) (view self.new) result }
+        ensures attached { OnOk result (view self.new).is_attached }
         ensures images { (view self.old).told → Keeps (view self.old) (view self.new) };
 
     /// The length of a file in bytes.
     fn len(&mut self, area: Area) -> Result<u64, Failed>
+        requires { (view self.old).is_attached }
         ensures call { Calls (view self.old) (view self.new) result }
         ensures bound { IfOk result (λ n. n < 2 ^ 63) }
         ensures images { (view self.old).told → Keeps (view self.old) (view self.new) }
@@ -31,7 +33,8 @@ pub trait Disk {
 
     /// Fills the buffer with the bytes from `at` on. The caller sees that the file is long enough.
     fn read_at(&mut self, area: Area, at: u64, into: &mut [u8]) -> Result<(), Failed>
-        requires { (view self.old).told →
+        requires attached { (view self.old).is_attached }
+        requires there { (view self.old).told →
             at + length into.old ≤ length (file area (view self.old).seen) }
         ensures call { Calls (view self.old) (view self.new) result }
         ensures images { (view self.old).told → Keeps (view self.old) (view self.new) }
@@ -42,7 +45,8 @@ pub trait Disk {
     /// succeeds, a crash may leave any bytes in the range, also after an error. The other file reads
     /// as before, also after an error.
     fn write_at(&mut self, area: Area, at: u64, bytes: &[u8]) -> Result<(), Failed>
-        requires { (view self.old).told → at ≤ length (file area (view self.old).seen) }
+        requires attached { (view self.old).is_attached }
+        requires there { (view self.old).told → at ≤ length (file area (view self.old).seen) }
         ensures call { Calls (view self.old) (view self.new) result }
         ensures within { OnOk result (at + length bytes.now < 2 ^ 63) }
         ensures written { (view self.old).told → OnOk result (
@@ -55,6 +59,7 @@ pub trait Disk {
 
     /// Settles both files: after Ok a crash leaves what a read gives. After an error nothing is settled.
     fn sync(&mut self) -> Result<(), Failed>
+        requires { (view self.old).is_attached }
         ensures call { Calls (view self.old) (view self.new) result }
         ensures seen { (view self.old).told → (view self.new).seen ≡ (view self.old).seen }
         ensures settled { (view self.old).told → OnOk result (

@@ -9,8 +9,11 @@ pub trait Source {
     /// What is left, where that is told.
     ghost left: { Self → Option (List ℕ) };
 
-    /// These names, in order, are all that `attach` was given so far.
+    /// These names, in order, may be all that `attach` was given so far.
     ghost attached: { Self → List (List ℕ) → Type 0 };
+
+    /// That a script is attached, so that it may be read. `attach` alone gives it.
+    ghost is_attached: { Self → Type 0 };
 
     /// How often it failed.
     ghost faults: { Self → ℕ };
@@ -19,6 +22,7 @@ pub trait Source {
     fn attach(&mut self, script: &str) -> Result<(), Failed>
         ensures attached { (names : List (List ℕ)) → attached self.old names
             → attached self.new (names ++ script.now ∷ []) }
+        ensures is_attached { OnOk result (is_attached self.new) }
         ensures left { OnOk result (left self.new ≡ left self.old) }
         ensures faults { faults self.old ≤ faults self.new }
         ensures cause { IsErr result → Rises (faults self.old) (faults self.new) };
@@ -26,8 +30,10 @@ pub trait Source {
     /// Moves the next bytes to the front of the buffer, at most as many as it has room for, and gives
     /// their number. Zero for a buffer that isn't empty is the end.
     fn take(&mut self, into: &mut [u8]) -> Result<usize, Failed>
+        requires { is_attached self.old }
         ensures attached { (names : List (List ℕ)) → attached self.old names
             → attached self.new names }
+        ensures is_attached { is_attached self.new }
         ensures within { IfOk result (λ n. n ≤ length into.old) }
         ensures moved { (rest : List ℕ) → left self.old ≡ Some rest → IfOk result (λ n.
             (n ≤ length rest)

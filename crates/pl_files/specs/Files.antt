@@ -37,16 +37,18 @@ AwaitsIn B files = files.b.unsynced ≢ Nothing
 abbrev pub AreNamed : List ℕ → StoreFiles → Type 0
 AreNamed name files = string_bytes files.name ≡ name
 
--- What is known of the host: the names that it was given, and how often it failed.
-abbrev pub view_of : FileHost → View
-view_of host = record (untold host.disk_faults) {
-  attached = AreAttached host.attached;
-  say_faults = host.say_faults;
-}
-
 -- The host holds both files, each open and locked.
 abbrev pub HasFiles : FileHost → Type 0
 HasFiles host = IsSome host.files
+
+-- What is known of the host: the names that it was given, that it holds the files, and how often it
+-- failed.
+abbrev pub view_of : FileHost → View
+view_of host = record (untold host.disk_faults) {
+  attached = AreAttached host.attached;
+  is_attached = HasFiles host;
+  say_faults = host.say_faults;
+}
 
 -- Those that it holds were opened under this name.
 abbrev pub Holds : List ℕ → FileHost → Type 0

@@ -56,6 +56,7 @@ impl StoreFiles {
         if path.as_str().ends_with(ALT) {
             return Err(in_a(Reason::SecondFile));
         }
+        refuse_alone(rt, path.as_str())?;
         let a = StoreFile::take(rt, path.as_str()).map_err(in_a)?;
         let b = take_beside(rt, path.as_str(), &a)?;
         let mut files = StoreFiles { name, a, b };
@@ -97,6 +98,24 @@ impl StoreFiles {
         }
         Ok(())
     }
+}
+
+// Refuses a second file that is no store's, where the first one isn't there: so none is made.
+fn refuse_alone(rt: &HostRuntime, path: &str) -> Result<(), Problem> {
+    match may_stand_alone(rt, path) {
+        Ok(true) => Ok(()),
+        Ok(false) => Err(Problem::of(Area::B, Reason::NotAStore)),
+        Err(reason) => Err(Problem::of(Area::B, reason)),
+    }
+}
+
+fn may_stand_alone(rt: &HostRuntime, path: &str) -> Result<bool, Reason> {
+    let alt = format!(in rt.alloc(); "{path}{ALT}")?;
+    if fs::exists(rt, path)? || !fs::exists(rt, alt.as_str())? {
+        return Ok(true);
+    }
+    let front = StoreFile::take(rt, alt.as_str())?.front()?;
+    Ok(may_be_store(Front::Unopened, front))
 }
 
 // The second file of the store with this first one. It isn't made beside one that is no store's.
@@ -210,6 +229,7 @@ impl Disk for FileHost {
     fn attach(&mut self, store: &str) -> Result<(), Failed>
         ensures call { Calls (with_attached store.now (view_of self.old)) (view_of self.new)
             result }
+        ensures attached { OnOk result (view_of self.new).is_attached }
         ensures named { OnOk result (Holds store.now self.new) }
         ensures opened { IsOk result ↔ HasFiles self.new }
         ensures settled { OnOk result (IsSettled self.new) }

@@ -100,11 +100,14 @@ impl Source for FileSource {
 
     ghost attached = { names_of };
 
+    ghost is_attached = { IsOpen };
+
     ghost faults = { faults_of };
 
     fn attach(&mut self, script: &str) -> Result<(), Failed>
         ensures attached { (names : List (List ℕ)) → names_of self.old names
             → names_of self.new (names ++ script.now ∷ []) }
+        ensures is_attached { OnOk result (IsOpen self.new) }
         ensures named { OnOk result (IsNamed self.new script.now) }
         ensures faults { faults_of self.old ≤ faults_of self.new }
         ensures cause { IsErr result → Rises (faults_of self.old) (faults_of self.new) }
@@ -125,6 +128,7 @@ impl Source for FileSource {
     fn take(&mut self, into: &mut [u8]) -> Result<usize, Failed>
         ensures attached { (names : List (List ℕ)) → names_of self.old names
             → names_of self.new names }
+        ensures is_attached { IsOpen self.old → IsOpen self.new }
         ensures named { (name : List ℕ) → IsNamed self.old name → IsNamed self.new name }
         ensures within { IfOk result (λ n. n ≤ length into.old) }
         ensures faults { faults_of self.old ≤ faults_of self.new }

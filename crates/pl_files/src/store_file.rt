@@ -13,6 +13,9 @@ use std::path::{Path, PathBuf};
 /// The greatest length of a file in bytes.
 const MAX_LEN: u64 = i64::MAX as u64;
 
+/// How many links may lead from one to the next.
+const MOST_LINKS: u32 = 40;
+
 /// The greatest descriptor of a standard stream.
 const MAX_STANDARD_STREAM: i32 = 2;
 
@@ -37,8 +40,8 @@ impl Unsynced {
     {
         match self {
             Unsynced::Nothing | Unsynced::Bytes if !grows => Unsynced::Bytes,
+            Unsynced::Nothing | Unsynced::Bytes | Unsynced::Length => Unsynced::Length,
             Unsynced::Lost => Unsynced::Lost,
-            _ => Unsynced::Length,
         }
     }
 }
@@ -150,15 +153,44 @@ fn open(rt: &HostRuntime, path: &str) -> io::Result<File> {
     Ok(file)
 }
 
-/// The path with no link in it. Where a link leads to no file, or none is there, one is made.
+/// The path with no link in it, also of a file that isn't there. Nothing is made.
 pub(crate) fn resolve(rt: &HostRuntime, path: &str) -> io::Result<PathBuf> {
     match fs::canonicalize(rt, path) {
-        Err(error) if error.kind() == ErrorKind::NotFound => {
-            open(rt, path)?;
-            fs::canonicalize(rt, path)
-        }
+        Err(error) if error.kind() == ErrorKind::NotFound => resolve_absent(rt, path),
         found => found,
     }
+}
+
+// The same of a file that isn't there, which a link may lead to.
+fn resolve_absent(rt: &HostRuntime, path: &str) -> io::Result<PathBuf> {
+    let mut path = PathBuf::from_str(rt.alloc(), path)?;
+    for _ in 0..MOST_LINKS {
+        if !path.is_symlink(rt) {
+            return in_folder(rt, path.as_path());
+        }
+        let target = path.read_link(rt)?;
+        path.pop();
+        path.push(target.as_str())?;
+    }
+    Err(ErrorKind::NotFound.into())
+}
+
+// The name of a file behind its folder, which has no link in it.
+fn in_folder(rt: &HostRuntime, path: Path<'_>) -> io::Result<PathBuf> {
+    let Some(name) = path.file_name() else {
+        return Err(ErrorKind::NotFound.into());
+    };
+    // A path that ends with a slash is that of a folder.
+    if !path.as_str().ends_with(name) {
+        return Err(ErrorKind::NotFound.into());
+    }
+    let folder = match path.parent() {
+        Some(folder) if !folder.as_str().is_empty() => folder.as_str(),
+        _ => ".",
+    };
+    let mut found = fs::canonicalize(rt, folder)?;
+    found.push(name)?;
+    Ok(found)
 }
 
 /// Settles the names in the folder of this file.

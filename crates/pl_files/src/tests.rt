@@ -77,6 +77,12 @@ fn another_file_is_no_store(rt: HostRuntime) -> Result<(), Fail> {
         assert_eq!(rt; fs::read_to_string(&rt, store.as_str())?.as_str(), other);
         assert!(rt; !fs::exists(&rt, alt.as_str())?, "{other}");
     }
+    fs::remove_file(&rt, store.as_str())?;
+    fs::write(&rt, alt.as_str(), "SELECT 1 FROM goods;")?;
+    let answer = attached(rt, store.as_str())?;
+    assert_eq!(rt; answer.as_str(), "shop.alt: not a store");
+    assert!(rt; !fs::exists(&rt, store.as_str())?);
+    fs::remove_file(&rt, alt.as_str())?;
     for unopened in ["", "S", "SPLP", "\0PLPGST01\0\0\0\0\0\0\0\0\0"] {
         fs::write(&rt, store.as_str(), unopened)?;
         let answer = attached(rt, store.as_str())?;

@@ -22,6 +22,7 @@ const MAGIC: [u8; 8] = *b"PLPGST01";
 /// open and hasn't the 18 bytes or the word that it has to begin with.
 #[tactic(auto, using(crate::proofs::Looks::looking))]
 pub fn inspect<D: Disk>(alloc: Global, disk: &mut D, area: Area) -> Result<Option<u64>, FrameFail>
+    requires attached { (D.view disk.old).is_attached }
     ensures looks { Looks (D.view disk.old) (D.view disk.new) }
     ensures read { (D.view disk.old).told → IfOk result (
         IsInspected (file area (D.view disk.old).seen)) }
@@ -50,6 +51,7 @@ pub fn inspect<D: Disk>(alloc: Global, disk: &mut D, area: Area) -> Result<Optio
 // Whether byte 0 is there and isn't 1.
 #[tactic(auto, using(crate::proofs::Looks::looking))]
 fn is_shut<D: Disk>(alloc: Global, disk: &mut D, area: Area) -> Result<bool, FrameFail>
+    requires attached { (D.view disk.old).is_attached }
     ensures looks { Looks (D.view disk.old) (D.view disk.new) }
     ensures read { (D.view disk.old).told → IfOk result (
         IsShutRead (file area (D.view disk.old).seen)) }
@@ -65,6 +67,7 @@ fn is_shut<D: Disk>(alloc: Global, disk: &mut D, area: Area) -> Result<bool, Fra
 /// Closes an area. Nothing is written where byte 0 is there and isn't 1, since a write that a crash
 /// cuts short could open it.
 pub fn close_area<D: Disk>(alloc: Global, disk: &mut D, area: Area) -> Result<(), FrameFail>
+    requires attached { (D.view disk.old).is_attached }
     // Byte 0 is settled: a crash leaves the one that is read.
     requires gate { (D.view disk.old).told → Leaves area
         (λ f. take 1 f ≡ take 1 (file area (D.view disk.old).seen)) (D.view disk.old) }
@@ -100,6 +103,7 @@ pub fn lay_header<D: Disk>(
     area: Area,
     generation: u64,
 ) -> Result<(), FrameFail>
+    requires attached { (D.view disk.old).is_attached }
     requires shut { (D.view disk.old).told → Leaves area Shut (D.view disk.old) }
 
     // A crash at any moment leaves the area's gate as it is in some image from before.
@@ -116,6 +120,7 @@ pub fn lay_header<D: Disk>(
 
 /// Opens an area whose header is laid.
 pub fn open_area<D: Disk>(disk: &mut D, area: Area) -> Result<(), FrameFail>
+    requires attached { (D.view disk.old).is_attached }
     requires shut { (D.view disk.old).told → Leaves area Shut (D.view disk.old) }
 
     // A crash at any moment leaves the area of some image from before, closed or opened.

@@ -20,7 +20,8 @@ pub const CLOSED: u8 = 0;
 
 /// Writes bytes and waits until they are on the disk.
 pub fn write_synced<D: Disk>(disk: &mut D, area: Area, at: u64, bytes: &[u8]) -> Result<(), Failed>
-    requires { (D.view disk.old).told → at ≤ length (file area (D.view disk.old).seen) }
+    requires attached { (D.view disk.old).is_attached }
+    requires there { (D.view disk.old).told → at ≤ length (file area (D.view disk.old).seen) }
     ensures writes { Writes (D.view disk.old) (D.view disk.new)
         (After (TornAt area at (length bytes.now)) (D.view disk.old).may_leave) }
     ensures written { (D.view disk.old).told → OnOk result (
@@ -46,7 +47,8 @@ pub fn read_exact<D: Disk>(
     at: u64,
     size: u64,
 ) -> Result<Vec<u8>, FrameFail>
-    requires { (D.view disk.old).told → at + size ≤ length (file area (D.view disk.old).seen) }
+    requires attached { (D.view disk.old).is_attached }
+    requires there { (D.view disk.old).told → at + size ≤ length (file area (D.view disk.old).seen) }
     ensures looks { Looks (D.view disk.old) (D.view disk.new) }
     ensures bytes { (D.view disk.old).told → IfOk result (λ bytes.
         bytes.items ≡ take size (drop at (file area (D.view disk.old).seen))) }

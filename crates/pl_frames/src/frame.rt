@@ -48,6 +48,7 @@ pub fn append<D: Disk>(
     at: u64,
     payload: &[u8],
 ) -> Result<u64, FrameFail>
+    requires attached { (D.view disk.old).is_attached }
     requires place { at < 2 ^ 63 }
     // In every image the area's frames end at this place.
     requires ends { (D.view disk.old).told → EndsAt area at (D.view disk.old).may_leave }
@@ -96,6 +97,7 @@ pub fn next_frame<D: Disk>(
     area: Area,
     at: u64,
 ) -> Result<Option<Frame>, FrameFail>
+    requires attached { (D.view disk.old).is_attached }
     requires place { at < 2 ^ 63 }
     // The gate is there.
     requires there { (D.view disk.old).told → at < length (file area (D.view disk.old).seen) }

@@ -42,6 +42,7 @@ impl Keeper {
     /// `Damaged` comes where the form of area A isn't right or area B is open; whether the operations
     /// apply is for the caller to see. `Fault` comes where a call of the disk failed.
     pub fn recover<D: Disk>(alloc: Global, disk: &mut D) -> Result<(Keeper, Vec<Batch>), FrameFail>
+        requires attached { (D.view disk.old).is_attached }
         // Each image is one from before, or has the batches that are read.
         ensures writes { Writes (D.view disk.old) (D.view disk.new) (Recovering (D.view disk.old)) }
 
@@ -79,6 +80,7 @@ impl Keeper {
     /// Puts an operation behind the others. After `Fault`, which comes where a call of the disk
     /// failed, it may be stored or not. `Memory` comes before anything is done, and `Damaged` never.
     pub fn commit<D: Disk>(&mut self, alloc: Global, disk: &mut D, op: &Op) -> Result<(), FrameFail>
+        requires attached { (D.view disk.old).is_attached }
         requires spelling { HasSpelling op.now }
         requires store { (D.view disk.old).told → IsSomeStore (D.view disk.old) self.old }
 

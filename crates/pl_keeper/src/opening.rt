@@ -29,6 +29,7 @@ pub struct Found {
 
 // The frames of an open area A, each decoded.
 fn read_frames<D: Disk>(alloc: Global, disk: &mut D) -> Result<Found, FrameFail>
+    requires attached { (D.view disk.old).is_attached }
     requires header { (D.view disk.old).told → has_header (D.view disk.old).seen.a ≡ true }
     ensures looks { Looks (D.view disk.old) (D.view disk.new) }
     ensures read { (D.view disk.old).told → IfOk result (AreRead (D.view disk.old).seen.a) }
@@ -52,6 +53,7 @@ fn read_frames<D: Disk>(alloc: Global, disk: &mut D) -> Result<Found, FrameFail>
 
 // Area B isn't used yet, so an open one is damaged.
 fn refuse_area_b<D: Disk>(alloc: Global, disk: &mut D) -> Result<(), FrameFail>
+    requires attached { (D.view disk.old).is_attached }
     ensures looks { Looks (D.view disk.old) (D.view disk.new) }
     ensures closed { (D.view disk.old).told →
         OnOk result (is_open (D.view disk.old).seen.b ≡ false) }
@@ -69,6 +71,7 @@ fn refuse_area_b<D: Disk>(alloc: Global, disk: &mut D) -> Result<(), FrameFail>
 
 // Closes, lays and opens area A. Each image has no batch all the while.
 fn new_store<D: Disk>(alloc: Global, disk: &mut D) -> Result<(), FrameFail>
+    requires attached { (D.view disk.old).is_attached }
     requires settled { (D.view disk.old).told →
         Only (D.view disk.old).seen (D.view disk.old).may_leave }
     requires closed_a { (D.view disk.old).told → is_open (D.view disk.old).seen.a ≡ false }
@@ -87,6 +90,7 @@ fn new_store<D: Disk>(alloc: Global, disk: &mut D) -> Result<(), FrameFail>
 
 /// Reads a store of which nothing is pending, or makes a new one where both areas are closed.
 pub fn open_store<D: Disk>(alloc: Global, disk: &mut D) -> Result<Found, FrameFail>
+    requires attached { (D.view disk.old).is_attached }
     requires settled { (D.view disk.old).told →
         Only (D.view disk.old).seen (D.view disk.old).may_leave }
     ensures writes { Writes (D.view disk.old) (D.view disk.new) (Opening (D.view disk.old)) }

@@ -65,7 +65,19 @@ definition_in text = if is_define_text text then defined_in text (lexemes 0 text
 
 abbrev pub CommandMeansAlike : Command → Type 0
 CommandMeansAlike (command.Define x source) = definition_in source ≡ table_by x source
-CommandMeansAlike other = Unit {0}
+CommandMeansAlike (command.Query query) = Unit {0}
+CommandMeansAlike (command.Insert insert) = Unit {0}
+CommandMeansAlike (command.Update update) = Unit {0}
+CommandMeansAlike (command.Delete delete) = Unit {0}
+CommandMeansAlike (command.Do language body) = Unit {0}
+CommandMeansAlike (command.Call name arguments) = Unit {0}
+CommandMeansAlike command.Begin = Unit {0}
+CommandMeansAlike command.StartTransaction = Unit {0}
+CommandMeansAlike command.Commit = Unit {0}
+CommandMeansAlike command.Rollback = Unit {0}
+CommandMeansAlike (command.Savepoint name) = Unit {0}
+CommandMeansAlike (command.Release name) = Unit {0}
+CommandMeansAlike (command.RollbackTo name) = Unit {0}
 
 -- a definition means by its own text, read by itself, what it means where it was read
 abbrev pub MeansAlike : Reading → Type 0

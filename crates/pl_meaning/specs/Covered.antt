@@ -1,12 +1,10 @@
 -- What may be found after a crash: what was printed, and what the two files open to.
 use Rattle.std.specs.Prelude.{◌≡◌, ◌⊎◌, ◌≤◌, ◌-◌, ◌==◌, ℕ, suc, List, [], ◌∷◌, ◌++◌, length, Some, Ok, slice_get, nat_lt, if◌then◌else◌}
 use Rattle.pl_base.specs.Image.{Image}
+use Rattle.pl_disk.specs.Disk.{IsPrefix}
 use Rattle.pl_meaning.specs.Database.{Database}
 use Rattle.pl_meaning.specs.Opening.{opens}
 use Rattle.pl_meaning.specs.Trace.{Event, Said, Failed, Committed, text, commits}
-
-abbrev pub IsPrefix : List ℕ → List ℕ → Type 0
-IsPrefix xs ys = (rest : List ℕ) × (xs ++ rest ≡ ys)
 
 -- how many commits come before the last event of which a byte is printed, where n bytes are
 abbrev pub at_least : List Event → ℕ → ℕ

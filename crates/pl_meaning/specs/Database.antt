@@ -21,6 +21,10 @@ pub record Table : Type 0 where
   -- the id that the next inserted row gets
   pub next : ℕ
 
+-- one column of the type integer
+abbrev pub integer_column : List ℕ → List Column
+integer_column name = (record { name = name; ty = type.Int }) ∷ []
+
 -- what the catalogue holds (so far tables alone)
 pub data Object : Type 0 where
   TableObject : Table → Object

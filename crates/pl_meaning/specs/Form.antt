@@ -41,7 +41,11 @@ one_column table elements = None
 
 abbrev pub table_of : Definition → Option IntegerTable
 table_of (definition.CreateTable made) = if made.if_not_exists then None else one_column made.name made.elements
-table_of definition = None
+table_of (definition.CreateRoutine routine) = None
+table_of (definition.CreateTrigger trigger) = None
+table_of (definition.DropTable if_exists name) = None
+table_of (definition.DropRoutine kind if_exists name types) = None
+table_of (definition.DropTrigger if_exists name table) = None
 
 -- the table that a definition makes, whose text can be stored
 abbrev pub table_by : Definition → Text → Option IntegerTable
@@ -50,12 +54,36 @@ table_by definition source = if is_define_text source then table_of definition e
 -- the table that a command makes
 abbrev pub table_in : Command → Option IntegerTable
 table_in (command.Define definition source) = table_of definition
-table_in command = None
+table_in (command.Query query) = None
+table_in (command.Insert insert) = None
+table_in (command.Update update) = None
+table_in (command.Delete delete) = None
+table_in (command.Do language body) = None
+table_in (command.Call name arguments) = None
+table_in command.Begin = None
+table_in command.StartTransaction = None
+table_in command.Commit = None
+table_in command.Rollback = None
+table_in (command.Savepoint name) = None
+table_in (command.Release name) = None
+table_in (command.RollbackTo name) = None
 
 -- the command is a definition whose text this is: from its first token's first byte to its last token's last byte
 abbrev pub is_text_of : Text → Command → Bool
 is_text_of text (command.Define definition source) = bytes_eq source text
-is_text_of text command = false
+is_text_of text (command.Query query) = false
+is_text_of text (command.Insert insert) = false
+is_text_of text (command.Update update) = false
+is_text_of text (command.Delete delete) = false
+is_text_of text (command.Do language body) = false
+is_text_of text (command.Call name arguments) = false
+is_text_of text command.Begin = false
+is_text_of text command.StartTransaction = false
+is_text_of text command.Commit = false
+is_text_of text command.Rollback = false
+is_text_of text (command.Savepoint name) = false
+is_text_of text (command.Release name) = false
+is_text_of text (command.RollbackTo name) = false
 
 -- ---- INSERT without alias, column list and RETURNING, of one row of one number of 32 bits
 

@@ -1,7 +1,6 @@
 -- What a script does, as the list of its events: each command that succeeds is a commit and then its reply, and each one that fails
 -- is its error alone.
 use Rattle.std.specs.Prelude.{◌≡◌, ◌&&◌, ℕ, ℤ, List, [], ◌∷◌, ◌++◌, Bool, Option, Some, None, if◌then◌else◌}
-use Rattle.pl_base.specs.declared.types.Ty.TheVariants as type
 use Rattle.pl_base.specs.declared.value.Value.TheVariants as value
 use Rattle.pl_codec.specs.Spelling.{is_row_id}
 use Rattle.pl_lex.specs.Characters.{Text}
@@ -9,7 +8,7 @@ use Rattle.pl_lex.specs.Lexemes.{Commands}
 use Rattle.pl_lex.specs.declared.token.Piece.{Piece}
 use Rattle.pl_tree.specs.declared.command.Command.{Command}
 use Rattle.pl_tree.specs.declared.command.Command.TheVariants as command
-use Rattle.pl_meaning.specs.Database.{Database, define, put, next_of}
+use Rattle.pl_meaning.specs.Database.{Database, define, integer_column, put, next_of}
 use Rattle.pl_meaning.specs.Form.{number_in, table_by}
 use Rattle.pl_meaning.specs.Reading.{IsPieceRead}
 use Rattle.pl_meaning.specs.Replies.{error_line, created, inserted, not_supported, duplicate_table, undefined_table, limit_exceeded}
@@ -28,7 +27,7 @@ commits_or reply error (Some next) = Committed next ∷ Said reply ∷ []
 -- a new table
 abbrev pub creates : Option IntegerTable → Database → List Event
 creates None db = Failed not_supported ∷ []
-creates (Some made) db = commits_or created duplicate_table (define made.table (record { name = made.column; ty = type.Int } ∷ []) db)
+creates (Some made) db = commits_or created duplicate_table (define made.table (integer_column made.column) db)
 
 -- a row of this number under the table's next row id, where that is one
 abbrev pub inserts_at : (table : List ℕ) (number : ℤ) → Option ℕ → Database → List Event

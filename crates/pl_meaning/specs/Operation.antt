@@ -1,16 +1,15 @@
 -- What the operations of a commit do to the database.
-use Rattle.std.specs.Prelude.{[], ◌∷◌, Option, Some, None, if◌then◌else◌}
+use Rattle.std.specs.Prelude.{Option, Some, None, if◌then◌else◌}
 use Rattle.pl_base.specs.declared.operation.Op.{Op}
 use Rattle.pl_base.specs.declared.operation.Op.TheVariants.{Define, Put, Remove, Next}
-use Rattle.pl_base.specs.declared.types.Ty.TheVariants as type
 use Rattle.pl_codec.specs.Spelling.{is_row_id}
 use Rattle.pl_meaning.specs.declared.form.IntegerTable.{IntegerTable}
 use Rattle.pl_meaning.specs.Computed.{definition_in}
-use Rattle.pl_meaning.specs.Database.{Database, define, put}
+use Rattle.pl_meaning.specs.Database.{Database, define, integer_column, put}
 
 -- the new table of a definition, if there is one
 abbrev pub define_by : Option IntegerTable → Database → Option Database
-define_by (Some made) db = define made.table (record { name = made.column; ty = type.Int } ∷ []) db
+define_by (Some made) db = define made.table (integer_column made.column) db
 define_by None db = None
 
 -- The database after an operation; None where it doesn't apply. A Define holds the text of a CREATE TABLE: it makes the table that its

@@ -26,7 +26,19 @@ fn is_text_of(text: &[u8], command: &Command) -> bool
 {
     match command {
         Command::Define { source, .. } => source.as_bytes() == text,
-        _ => false,
+        Command::Query(_)
+        | Command::Insert(_)
+        | Command::Update(_)
+        | Command::Delete(_)
+        | Command::Do { .. }
+        | Command::Call { .. }
+        | Command::Begin
+        | Command::StartTransaction
+        | Command::Commit
+        | Command::Rollback
+        | Command::Savepoint(_)
+        | Command::Release(_)
+        | Command::RollbackTo(_) => false,
     }
 }
 

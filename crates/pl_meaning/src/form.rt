@@ -32,7 +32,19 @@ pub fn table_in(command: &Command) -> Option<IntegerTable>
 {
     match command {
         Command::Define { definition, .. } => table_of(definition),
-        _ => None,
+        Command::Query(_)
+        | Command::Insert(_)
+        | Command::Update(_)
+        | Command::Delete(_)
+        | Command::Do { .. }
+        | Command::Call { .. }
+        | Command::Begin
+        | Command::StartTransaction
+        | Command::Commit
+        | Command::Rollback
+        | Command::Savepoint(_)
+        | Command::Release(_)
+        | Command::RollbackTo(_) => None,
     }
 }
 
@@ -46,7 +58,11 @@ fn table_of(definition: &Definition) -> Option<IntegerTable>
             }
             one_column(made.name, made.elements.as_slice())
         }
-        _ => None,
+        Definition::CreateRoutine(_)
+        | Definition::CreateTrigger(_)
+        | Definition::DropTable { .. }
+        | Definition::DropRoutine { .. }
+        | Definition::DropTrigger { .. } => None,
     }
 }
 

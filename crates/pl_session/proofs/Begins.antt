@@ -68,10 +68,11 @@ is_used c damage is = inr (λ empty. clash (sym (opens_by c [] [] empty refl) �
     clash h = cc
 
 -- a session over the batches that were found
-pub started : (a b : View) (state : SessionState) (list : List Stored) → (b.told → a.told) → (a.told → Recovered a b state.keeper list) → state.failed ≡ None → apply_batches list [] ≡ Ok (database_in state) → IsStarted a b state
-started a b state list told_before recovered is_open leads = record {
+pub started : (a b : View) (state : SessionState) (list : List Stored) → b.is_attached → (b.told → a.told) → (a.told → Recovered a b state.keeper list) → state.failed ≡ None → apply_batches list [] ≡ Ok (database_in state) → IsStarted a b state
+started a b state list attached told_before recovered is_open leads = record {
   ready = record {
     is_open = is_open;
+    attached = attached;
     opens_to = λ told c left. stores_open b.may_leave state.keeper (database_in state) (kept told) c left;
     store = kept;
   };

@@ -41,6 +41,7 @@ module _ (a d : View) (before after : SessionState) (line : List ℕ) (ready : I
       record {
         ready = record {
           is_open = open_still ∙ ready.is_open;
+          attached = on.is_attached ready.attached;
           opens_to = λ told c left. stores_open d.may_leave after.keeper (database_in after) (kept told) c left;
           store = kept;
         };

@@ -11,8 +11,8 @@ use Rattle.std.specs.List.{position, position_or_len, prefix_len}
 use Rattle.std.specs.Cmp.Lexicographic.{pointwise}
 use Rattle.std.proofs.lemmas.Bool.Decides.{nat_tests}
 use Rattle.pl_base.specs.declared.value.Value.{Value}
-use Rattle.pl_meaning.specs.Database.{Database, Column, Object, TableObject, Table as TableValue, has, empty_table, define, fits, has_row, with_row, MOST_ROWS, put_in, put_object, put, next_of}
-use Rattle.pl_session.specs.Tables.{integer_column, table_of, object_of, database_of, Becomes}
+use Rattle.pl_meaning.specs.Database.{Database, Column, Object, TableObject, Table as TableValue, has, empty_table, define, fits, has_row, integer_column, with_row, MOST_ROWS, put_in, put_object, put, next_of}
+use Rattle.pl_session.specs.Tables.{table_of, object_of, database_of, Becomes}
 use Rattle.pl_session.specs.declared.tables.Table.{Table}
 
 no_place : (n m : ℕ) → (let o : Option ℕ = cond (nat_lt n m) (Some n) None in o ≡ None) → m ≤ n

@@ -65,6 +65,7 @@ pub still_ready : (a d : View) (before after : SessionState) → IsReady a befor
     → after.failed ≡ before.failed → after.keeper ≡ before.keeper → database_in after ≡ database_in before → IsReady d after
 still_ready a d before after was on fewer failed keeper db = record {
   is_open = failed ∙ was.is_open;
+  attached = on.is_attached was.attached;
   opens_to = λ told c left. was.opens_to (on.told_before told) c (fewer (on.told_before told) c left) ∙ ap (λ (e : Database). let r : Result Database Damage = Ok e in r) (sym db);
   store = λ told. let t = on.told_before told in let s = was.store t in record {
     list = s.list;

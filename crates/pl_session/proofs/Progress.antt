@@ -9,11 +9,11 @@ use Rattle.pl_keeper.specs.Batches.{Damage}
 use Rattle.pl_lex.specs.Characters.{Text}
 use Rattle.pl_meaning.specs.Computed.{script_readings}
 use Rattle.pl_meaning.specs.Database.{Database}
-use Rattle.pl_meaning.specs.Meaning.{events, trace, Readings}
+use Rattle.pl_meaning.specs.Meaning.{AreOfFirst, events, trace, Readings}
 use Rattle.pl_meaning.specs.Trace.{Event, is_failed, text, last_commit}
 use Rattle.pl_meaning.specs.declared.reading.Reading.{Reading}
 use Rattle.pl_meaning.proofs.Lent.{text-append, last_commit-append, is_failed-append, both_no, trace-append, trace-one, trace-last, readings_some}
-use Rattle.pl_session.specs.Endings.{RunsAlong, Done, StopsBy}
+use Rattle.pl_session.specs.Endings.{RunsAlong, GoesOn, PrintsWhole, StopsBy}
 use Rattle.pl_session.specs.Scripts.{Left}
 use Rattle.pl_session.specs.State.{database_in, IsReady}
 use Rattle.pl_session.specs.Steps.{Idle, StepCause}
@@ -66,22 +66,28 @@ module _ (a b : View) (stops : Bool) (script : Text) (at : ℕ) (db current : Da
   moments_so_far = subst (λ (t : List Event). RunsAlong a b t db) (sym split) (along_more a b done (trace stops was.rest current) db was.moments)
 
   -- and then, or where nothing of the next piece was done, a whole number of them is done
+  of_first : AreOfFirst script stops db done
+  of_first = (was.first, was.rest, subst (λ (rs : List Reading). Readings script rs) was.all (readings_some script), refl)
+
   pub so_many : (d : View) (state : SessionState) → IsReady b state → database_in state ≡ current → (a.told → b.told) → Idle b d → StopsBy a d script stops db Memory
   so_many d state ready is told idle = (
     done,
-    (was.first, was.rest, subst (λ (rs : List Reading). Readings script rs) was.all (readings_some script), refl),
-    record {
-      printed = λ t. idle.printed (told t) ∙ was.printed t;
-      opens_to = λ t c left. ready.opens_to (told t) c (idle.images (told t) c left) ∙ ap (λ (e : Database). let r : Result Database Damage = Ok e in r) (is ∙ was.reached);
+    of_first,
+    λ t. record {
+      printed = idle.printed (told t) ∙ was.printed t;
+      opens_to = λ c left. ready.opens_to (told t) c (idle.images (told t) c left) ∙ ap (λ (e : Database). let r : Result Database Damage = Ok e in r) (is ∙ was.reached);
     },
   )
+
+  pub says_whole : (d : View) → (a.told → b.told) → (b.told → d.printed ≡ b.printed) → PrintsWhole a d script stops db
+  says_whole d told same = (done, of_first, λ t. same (told t) ∙ was.printed t)
 
   -- nothing is left
   module _ (none : was.rest ≡ []) where
     all_done : trace stops (script_readings script) db ≡ trace stops was.first db
     all_done = split ∙ ap (λ (rs : List Reading). done ++ trace stops rs current) none ∙ append-nil done
 
-    pub done_whole : (before after : SessionState) → database_in before ≡ db → database_in after ≡ current → IsReady b after → Done a b before after (trace stops (script_readings script) db)
+    pub done_whole : (before after : SessionState) → database_in before ≡ db → database_in after ≡ current → IsReady b after → GoesOn a b before after (trace stops (script_readings script) db)
     done_whole before after is_before is_after ready = record {
       ready = ready;
       database = is_after ∙ was.reached ∙ ap (λ (t : List Event). last_commit t db) (sym all_done) ∙ ap (λ (e : Database). last_commit whole e) (sym is_before);
@@ -143,7 +149,7 @@ module _ (a b : View) (stops : Bool) (script : Text) (at : ℕ) (db current : Da
       ends : trace stops (script_readings script) db ≡ done ++ now
       ends = split ∙ ap (λ (rs : List Reading). done ++ trace stops rs current) next ∙ ap (λ (t : List Event). done ++ t) (trace-last stops reading others current error)
 
-      pub done_at_error : (before after : SessionState) → database_in before ≡ db → database_in after ≡ last_commit now current → IsReady d after → (a.told → d.printed ≡ b.printed ++ text now) → Done a d before after (trace stops (script_readings script) db)
+      pub done_at_error : (before after : SessionState) → database_in before ≡ db → database_in after ≡ last_commit now current → IsReady d after → (a.told → d.printed ≡ b.printed ++ text now) → GoesOn a d before after (trace stops (script_readings script) db)
       done_at_error before after is_before is_after ready said = record {
         ready = ready;
         database = reached_more (database_in after) is_after ∙ ap (λ (t : List Event). last_commit t db) (sym ends) ∙ ap (λ (e : Database). last_commit whole e) (sym is_before);
@@ -166,6 +172,9 @@ rises_since a b d h k rises below =
 -- why a piece stopped is why the script did
 pub stops_by : (a b d : View) (stops : Bool) (script : Text) (at : ℕ) (db current : Database) (was : Progress a b stops script at db current) (state : SessionState) (why : Stop)
     → IsReady b state → database_in state ≡ current → Continues b d → StepCause b d why → StopsBy a d script stops db why
-stops_by a b d stops script at db current was state Disk ready is on cause = rises_since a.disk_faults b.disk_faults d.disk_faults was.moments.continues.disk_faults on.disk_faults cause
+stops_by a b d stops script at db current was state Disk ready is on cause = (
+  rises_since a.disk_faults b.disk_faults d.disk_faults was.moments.continues.disk_faults on.disk_faults cause.0,
+  says_whole a b stops script at db current was d (λ t. was.moments.continues.told t) cause.1,
+)
 stops_by a b d stops script at db current was state Say ready is on cause = rises_since a.say_faults b.say_faults d.say_faults was.moments.continues.say_faults on.say_faults cause
 stops_by a b d stops script at db current was state Memory ready is on cause = so_many a b stops script at db current was d state ready is (λ t. was.moments.continues.told t) cause

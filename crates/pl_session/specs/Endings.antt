@@ -27,23 +27,34 @@ OfTrace script stops db P = (events : List Event) → IsTrace script stops db ev
 abbrev pub RunsAlong : View → View → List Event → Database → Type 0
 RunsAlong old new events db = Runs old new (AlongFrom old.printed events db)
 
--- After Ok: the events are printed to the end, and the session is ready with the database of their last commit.
-pub record Done (old new : View) (before after : SessionState) (events : List Event) : Type 0 where
+-- These events are done, and no other: all that they say is printed, and each crash leaves files that
+-- open to their last commit.
+pub record Done (old new : View) (events : List Event) (db : Database) : Type 0 where
+  pub printed : new.printed ≡ old.printed ++ text events
+  pub opens_to : (image : Image) → new.may_leave image → opens image ≡ Ok (last_commit events db)
+
+-- All that was printed is the text of the first of a script's pieces, of some number of them: no
+-- reply is printed in part.
+abbrev pub PrintsWhole : (old new : View) → Text → (stops : Bool) → Database → Type 0
+PrintsWhole old new script stops db = (events : List Event) × AreOfFirst script stops db events
+    × (old.told → new.printed ≡ old.printed ++ text events)
+
+-- After Ok: the events are printed to the end, and the session is ready with the database of their
+-- last commit.
+pub record GoesOn (old new : View) (before after : SessionState) (events : List Event) : Type 0 where
   pub ready : IsReady new after
   pub database : database_in after ≡ last_commit events (database_in before)
   pub printed : old.told → new.printed ≡ old.printed ++ text events
 
--- These events and nothing of a later one: their text is printed, and each crash leaves files that open to their last commit.
-pub record StopsAfter (old new : View) (events : List Event) (db : Database) : Type 0 where
-  pub printed : old.told → new.printed ≡ old.printed ++ text events
-  pub opens_to : old.told → (c : Image) → new.may_leave c → opens c ≡ Ok (last_commit events db)
-
--- Why a session stopped, a line a reason: the count of the disk's failures rose; that of the output's did; there was no memory, and
--- then a whole number of the script's pieces is done and nothing of the next one.
+-- Why a session stopped, a line a reason: the count of the disk's failures rose, and no reply is
+-- printed in part; that of the output's did; there was no memory, and then a whole number of the
+-- script's pieces is done and nothing of the next one.
 abbrev pub StopsBy : View → View → Text → (stops : Bool) → Database → Stop → Type 0
-StopsBy old new script stops db Disk = Rises old.disk_faults new.disk_faults
+StopsBy old new script stops db Disk =
+    Rises old.disk_faults new.disk_faults × PrintsWhole old new script stops db
 StopsBy old new script stops db Say = Rises old.say_faults new.say_faults
-StopsBy old new script stops db Memory = (events : List Event) × AreOfFirst script stops db events × StopsAfter old new events db
+StopsBy old new script stops db Memory = (events : List Event) × AreOfFirst script stops db events
+    × (old.told → Done old new events db)
 
 -- Why a call did not run to its end, a line an ending: the session had stopped before, and nothing was done; or it stopped now, and is
 -- closed from then on.

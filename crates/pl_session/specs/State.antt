@@ -19,9 +19,11 @@ pub record Stores (may_leave : Image → Type 0) (keeper : ℕ) (db : Database) 
   pub store : IsStore may_leave keeper list
   pub leads : apply_batches list [] ≡ Ok db
 
--- What a call of a session begins with, and what it leaves after Ok: the session is open, and every crash leaves files that open to
--- its database (`store` is how its keeper knows them).
+-- What a call of a session begins with, and what it leaves after Ok: the session is open, its host
+-- has a store, and every crash leaves files that open to its database (`store` is how its keeper
+-- knows them).
 pub record IsReady (v : View) (state : SessionState) : Type 0 where
   pub is_open : state.failed ≡ None
+  pub attached : v.is_attached
   pub opens_to : v.told → (c : Image) → v.may_leave c → opens c ≡ Ok (database_in state)
   pub store : v.told → Stores v.may_leave state.keeper (database_in state)

@@ -7,7 +7,7 @@ use Rattle.pl_keeper.specs.Batches.{Stored}
 use Rattle.pl_meaning.specs.Database.{Database}
 use Rattle.pl_meaning.specs.Opening.{apply_batches, opens}
 use Rattle.pl_meaning.specs.Trace.{Event, is_failed}
-use Rattle.pl_session.specs.Endings.{Done}
+use Rattle.pl_session.specs.Endings.{GoesOn}
 use Rattle.pl_session.specs.Tables.{database_of}
 use Rattle.pl_session.specs.declared.halt.StartFail.{StartFail}
 use Rattle.pl_session.specs.declared.halt.StartFail.TheVariants.{Disk as DiskFailed, Damaged, Memory as NoMemory}
@@ -21,15 +21,16 @@ pub record Idle (old new : View) : Type 0 where
   pub printed : old.told → new.printed ≡ old.printed
   pub images : old.told → (c : Image) → new.may_leave c → old.may_leave c
 
--- why a step stopped: for want of memory it did nothing
+-- why a step stopped: where the disk failed nothing is printed, and for want of memory nothing is done
 abbrev pub StepCause : View → View → Stop → Type 0
-StepCause old new Disk = Rises old.disk_faults new.disk_faults
+StepCause old new Disk =
+    Rises old.disk_faults new.disk_faults × (old.told → new.printed ≡ old.printed)
 StepCause old new Say = Rises old.say_faults new.say_faults
 StepCause old new Memory = Idle old new
 
 -- how a step with these events ended: they are done, and the answer is whether it failed; or it stopped
 abbrev pub StepEnd : (old new : View) (before after : SessionState) → List Event → Result Bool Stop → Type 0
-StepEnd old new before after events (Ok failed) = Done old new before after events × (failed ≡ is_failed events)
+StepEnd old new before after events (Ok failed) = GoesOn old new before after events × (failed ≡ is_failed events)
 StepEnd old new before after events (Err why) = StepCause old new why
 
 -- every crash leaves files that open to this database

@@ -1,15 +1,10 @@
 -- What the tables in memory stand for.
-use Rattle.std.specs.Prelude.{◌≡◌, ℕ, List, [], ◌∷◌, map, Bool, true, false, Option, Some, None}
-use Rattle.pl_base.specs.declared.types.Ty.TheVariants as type
-use Rattle.pl_meaning.specs.Database.{Column, Database, Object, TableObject, Table as TableValue}
+use Rattle.std.specs.Prelude.{◌≡◌, List, map, Bool, true, false, Option, Some, None}
+use Rattle.pl_meaning.specs.Database.{Database, Object, TableObject, Table as TableValue, integer_column}
 use Rattle.pl_meaning.specs.Operation.{apply, define_by}
 use Rattle.pl_session.specs.declared.tables.Change.{Change}
 use Rattle.pl_session.specs.declared.tables.Change.TheVariants.{Create, Apply}
 use Rattle.pl_session.specs.declared.tables.Table.{Table}
-
--- one column of the type integer
-abbrev pub integer_column : List ℕ → List Column
-integer_column name = (record { name = name; ty = type.Int }) ∷ []
 
 abbrev pub table_of : Table → TableValue
 table_of table = record { name = table.name; columns = integer_column table.column; rows = table.rows.entries; next = table.next }

@@ -15,7 +15,7 @@ ghost use Rattle.pl_meaning.specs.Replies.{error_line};
 ghost use Rattle.pl_meaning.specs.Trace.{Said, Committed, is_failed};
 ghost use Rattle.pl_print.specs.Tags.{tag_bytes};
 ghost use Rattle.pl_session.specs.AreaB.{KeepsAreaB};
-ghost use Rattle.pl_session.specs.Endings.{OfTrace, RunsAlong, Done, StopsBy, HasCause, outcome_of, ended_of};
+ghost use Rattle.pl_session.specs.Endings.{OfTrace, RunsAlong, GoesOn, StopsBy, HasCause, outcome_of, ended_of};
 ghost use Rattle.pl_session.specs.Plans.{Spells};
 ghost use Rattle.pl_session.specs.Replies.{line_of, event_of};
 ghost use Rattle.pl_session.specs.Starts.{StartPair, OpensSame, IsStarted, HasStartCause};
@@ -88,6 +88,7 @@ fn commit_then_answer<H: Host>(
     op: &Op,
     reply: Tag,
 ) -> Result<(), Stop>
+    requires attached { (H.view host.old).is_attached }
     requires spelling { HasSpelling op.now }
     requires store { (H.view host.old).told
         → (db : Database) × Stores (H.view host.old).may_leave keeper.old db }
@@ -161,6 +162,8 @@ impl SessionState {
     /// `Disk` comes where a call of the disk failed. `Damaged` comes where the files are malformed,
     /// with the first such place; then they stay as they are.
     pub fn start<H: Host>(alloc: Global, host: &mut H) -> Result<SessionState, StartFail>
+        requires { (H.view host.old).is_attached }
+
         // Nothing is printed, and each image is one from before or opens as what reads give.
         ensures moments { Runs (H.view host.old) (H.view host.new) (StartPair (H.view host.old)) }
 
@@ -238,9 +241,10 @@ impl SessionState {
             (database_in self.old)) }
         ensures done { OfTrace script.now stops (database_in self.old)
             (λ events. OnOk result
-            (Done (H.view host.old) (H.view host.new) self.old self.new events)) }
+            (GoesOn (H.view host.old) (H.view host.new) self.old self.new events)) }
         ensures ended { OfTrace script.now stops (database_in self.old)
             (λ events. IfOk result (λ ended. ended ≡ ended_of (stops && is_failed events))) }
+        ensures ready { OnOk result (IsReady (H.view host.new) self.new) }
         ensures cause { IfErr result
             (StopsBy (H.view host.old) (H.view host.new) script.now stops (database_in self.old)) }
         ensures area_b { (H.view host.old).told
@@ -272,10 +276,12 @@ impl SessionState {
             (λ events. RunsAlong (H.view host.old) (H.view host.new) events
             (database_in self.old)) }
 
-        // After Ok they are done, and the answer says whether one failed.
+        // After Ok they are done, the session is ready for the next command, and the answer says
+        // whether one failed.
         ensures done { OfTrace text.now true (database_in self.old)
             (λ events. OnOk result
-            (Done (H.view host.old) (H.view host.new) self.old self.new events)) }
+            (GoesOn (H.view host.old) (H.view host.new) self.old self.new events)) }
+        ensures ready_again { OnOk result (IsReady (H.view host.new) self.new) }
         ensures outcome { OfTrace text.now true (database_in self.old)
             (λ events. IfOk result (λ outcome. outcome ≡ outcome_of (is_failed events))) }
 
@@ -312,11 +318,12 @@ impl SessionState {
             (λ events. RunsAlong (H.view host.old) (H.view host.new) events
             (database_in self.old)) }
 
-        // After Ok they are done. It ends at an error exactly where it stops on errors and one
-        // failed.
+        // After Ok they are done, and the session is ready for the next script. It ends at an error
+        // exactly where it stops on errors and one failed.
         ensures done { OfTrace script.now stops_on_error (database_in self.old)
             (λ events. OnOk result
-            (Done (H.view host.old) (H.view host.new) self.old self.new events)) }
+            (GoesOn (H.view host.old) (H.view host.new) self.old self.new events)) }
+        ensures ready_again { OnOk result (IsReady (H.view host.new) self.new) }
         ensures ended { OfTrace script.now stops_on_error (database_in self.old)
             (λ events. IfOk result
             (λ ended. ended ≡ ended_of (stops_on_error && is_failed events))) }

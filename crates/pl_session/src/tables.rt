@@ -4,10 +4,10 @@ ghost use Rattle.std.specs.Prelude.{◌≡◌, ◌<◌, ◌^◌, ◌||◌, [], l
 ghost use Rattle.std.specs.List.{position};
 ghost use Rattle.std.specs.Cmp.Lexicographic.{pointwise};
 ghost use Rattle.pl_meaning.specs.Database as database;
-ghost use Rattle.pl_meaning.specs.Database.{fits, has_row, put_in, put, define, next_of};
+ghost use Rattle.pl_meaning.specs.Database.{fits, has_row, integer_column, put_in, put, define, next_of};
 ghost use Rattle.pl_base.specs.declared.operation.Op.TheVariants.{Define, Put};
 ghost use Rattle.pl_meaning.specs.Operation.{apply};
-ghost use Rattle.pl_session.specs.Tables.{integer_column, table_of, database_of, changed, Becomes};
+ghost use Rattle.pl_session.specs.Tables.{table_of, database_of, changed, Becomes};
 
 use pl_base::{Cells, Memory, Name, Op, Value};
 use pl_meaning::{IntegerTable, read_definition};

@@ -185,6 +185,7 @@ impl Disk for MemoryHost {
         ensures ends { Ends self.old self.new result }
         ensures call { Calls (with_attached store.now (host_view self.old))
             (host_view self.new) result }
+        ensures attached { (host_view self.new).is_attached }
         ensures images { Keeps (host_view self.old) (host_view self.new) }
     {
         self.attached.add(self.alloc, store);

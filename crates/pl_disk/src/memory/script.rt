@@ -38,8 +38,7 @@ impl MemorySource {
     // Counts a call, which fails where its number is listed.
     fn begin(&mut self) -> Result<(), Failed>
         ensures counts { FailsWhereListed self.old self.new result }
-        ensures attached { (names : List (List ℕ)) → script_attached self.old names
-            → script_attached self.new names }
+        ensures attached { self.new.attached ≡ self.old.attached }
         ensures left { left_of self.new ≡ left_of self.old }
     {
         let call = self.calls;
@@ -53,11 +52,13 @@ impl MemorySource {
 }
 
 impl Source for MemorySource {
-    ghost use Rattle.pl_disk.specs.Script.{FailsWhereListed, left_of, script_faults, script_attached};
+    ghost use Rattle.pl_disk.specs.Script.{FailsWhereListed, left_of, script_faults, script_attached, script_is_attached};
 
     ghost left = { λ s. Some (left_of s) };
 
     ghost attached = { λ s. script_attached s };
+
+    ghost is_attached = { λ s. script_is_attached s };
 
     ghost faults = { λ s. script_faults s };
 
@@ -65,6 +66,7 @@ impl Source for MemorySource {
         ensures fails_where_listed { FailsWhereListed self.old self.new result }
         ensures attached { (names : List (List ℕ)) → script_attached self.old names
             → script_attached self.new (names ++ script.now ∷ []) }
+        ensures is_attached { script_is_attached self.new }
         ensures left { left_of self.new ≡ left_of self.old }
         ensures faults { script_faults self.old ≤ script_faults self.new }
         ensures cause { IsErr result → Rises (script_faults self.old) (script_faults self.new) }
@@ -77,6 +79,7 @@ impl Source for MemorySource {
         ensures fails_where_listed { FailsWhereListed self.old self.new result }
         ensures attached { (names : List (List ℕ)) → script_attached self.old names
             → script_attached self.new names }
+        ensures is_attached { script_is_attached self.old → script_is_attached self.new }
         ensures within { IfOk result (λ n. n ≤ length into.old) }
         ensures moved { IfOk result (λ n. (n ≤ length (left_of self.old))
             × (into.new ≡ take n (left_of self.old) ++ drop n into.old)

@@ -3,9 +3,11 @@ use Rattle.pl_meaning.specs.Database.{Database}
 use Rattle.pl_meaning.specs.Opening.{opens}
 use Rattle.pl_meaning.specs.Trace.{Event, Said}
 use Rattle.pl_session.specs.AreaB.{KeepsAreaB}
+use Rattle.pl_session.specs.Endings.{Done}
 use Rattle.pl_session.specs.Lent.{area_b_on}
 use Rattle.pl_session.specs.State.{database_in}
 use Rattle.pl_cli.specs.Covers.{CoveredRun}
+use Rattle.pl_cli.specs.Line.{Asked, asked}
 use Rattle.pl_cli.specs.Lines.{asked_in}
 use Rattle.pl_cli.specs.Parts.{SaysLast}
 use Rattle.pl_cli.specs.Printed.{refusal_line}
@@ -15,10 +17,10 @@ use Rattle.pl_disk.specs.Disk.{Runs}
 use Rattle.pl_meaning.specs.Covered.{AlongFrom}
 use Rattle.pl_meaning.specs.Meaning.{IsTrace}
 use Rattle.pl_base.specs.Image.{Image}
-use Rattle.pl_cli.specs.Runs.{Done, HasCause, Over}
+use Rattle.pl_cli.specs.Runs.{HasCause, Over}
 use Rattle.pl_cli.specs.Script.{IsRefusedAt, script_text}
 use Rattle.pl_cli.proofs.Covering.{done_since, idle_covers, not_begun, only_started, same_database, start_covers, then_covers}
-use Rattle.pl_cli.proofs.Runs.{area_b_said, cause_of, done_by, not_memory, refused_due, says_along, says_nothing, trace_of}
+use Rattle.pl_cli.proofs.Runs.{area_b_said, cause_of, done_by, none_printed, not_disk, not_memory, one_asked, prints_since, prints_whole, refused_due, says_along, says_nothing, trace_of}
 use Rattle.pl_cli.proofs.Traces.{none_yet}
 use Rattle.pl_cli.proofs.program.run.Goals as goal
 
@@ -63,6 +65,14 @@ returns-in-Err-Memory-start-clause-memory g c is db events over =
 pub returns-in-Err-Memory-read_script-clause-memory : goal.returns-in-Err-Memory-read_script-clause-memory
 returns-in-Err-Memory-read_script-clause-memory g c is db events over =
     inr ([], none_yet _ _ _, only_started _ _ _ db c.in-Ok-start.ensures.started over.told (c.start.ensures.moments.continues.told over.told) over.opened (c.start.ensures.printed over.told))
+
+pub returns-in-Err-Disk-clause-disk : goal.returns-in-Err-Disk-clause-disk
+returns-in-Err-Disk-clause-disk g c is db events over = none_printed (g.H.Disk.view c.args.host.now) (g.H.Disk.view c.start.new.host) _ _ db c.start.ensures.printed
+
+pub returns-in-Err-Refused-clause-disk : goal.returns-in-Err-Refused-clause-disk
+returns-in-Err-Refused-clause-disk g c is db events over =
+    let none = sym c.of-in-Err-Refused.ensures.ending ∙ is in
+    ⊎_elim (λ says. absurd (not_disk _ _ none says.known)) (λ memory. absurd (let one = none in let other = memory.0 in cc)) c.say_refusal.ensures
 
 pub returns-in-Err-Refused-clause-covered : goal.returns-in-Err-Refused-clause-covered
 returns-in-Err-Refused-clause-covered g c db events over =
@@ -162,3 +172,20 @@ returns-clause-done g c ended db events over =
     done_since a b d events found db same (c.start.ensures.printed over.told)
     (done_by c.run_commands.result b d text line.stops_on_error found events c.run_commands.ensures.ended (c.start.ensures.moments.continues.told over.told)
     (subst (λ (e : Ending). (e ≡ Whole) ⊎ ((e ≡ AtError) ⊎ (e ≡ Refused))) c.of-2.ensures.ending ended) traced)
+
+pub returns-clause-disk : goal.returns-clause-disk
+returns-clause-disk g c is db events over =
+    let a = g.H.Disk.view c.args.host.now in
+    let b = g.H.Disk.view c.start.new.host in
+    let d = g.H.Disk.view c.run_commands.new.host in
+    let line = asked_in c.in-Ok.line in
+    let text = c.without_mark-text.result.now in
+    let found = database_in c.in-Ok-start.state in
+    let started = c.in-Ok-start.ensures.started in
+    let same : found ≡ db = same_database (opens a.seen) found db (started.opened over.told) over.opened in
+    let read = c.in-Ok-read_script.ensures.read over.script over.reads in
+    let is_text : text ≡ script_text over.script = c.without_mark-text.ensures ∙ ap script_text (c.deref.ensures ∙ read.0) in
+    let one : line ≡ over.line = one_asked (asked (map string_bytes c.args.words.now)) line over.line c.in-Ok.ensures.line over.asks in
+    prints_since a b d text (script_text over.script) line.stops_on_error over.line.stops_on_error found db is_text (ap (λ (l : Asked). l.stops_on_error) one) same
+    c.start.ensures.printed (λ told. c.start.ensures.moments.continues.told told)
+    (prints_whole c.run_commands.result b d text line.stops_on_error found c.run_commands.ensures.ended (sym c.of-2.ensures.ending ∙ is))

@@ -10,6 +10,7 @@ turn text buf old rest left new n short is grown whole =
 pub turns-preserved : goal.turns-preserved
 turns-preserved g c = record {
   attached = λ names is. c.take.ensures.attached names (c.turns.invariant.attached names is);
+  is_attached = c.take.ensures.is_attached;
   faults = omega (arith, c.turns.invariant.faults, c.take.ensures.faults);
   read = λ left is.
       let was = c.turns.invariant.read left is in

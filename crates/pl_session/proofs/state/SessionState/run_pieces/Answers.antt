@@ -5,7 +5,7 @@ use Rattle.pl_meaning.specs.Meaning.{events}
 use Rattle.pl_meaning.specs.Trace.{Event, is_failed}
 use Rattle.pl_meaning.proofs.Lent.{of_trace}
 use Rattle.pl_session.specs.Lent.{area_b_on, area_b_still}
-use Rattle.pl_session.specs.Endings.{RunsAlong, Done, StopsBy, ended_of}
+use Rattle.pl_session.specs.Endings.{RunsAlong, GoesOn, StopsBy, ended_of}
 use Rattle.pl_session.specs.Scripts.{IsNextReading}
 use Rattle.pl_session.specs.State.{database_in}
 use Rattle.pl_session.specs.declared.halt.Ended.{Ended}
@@ -52,7 +52,7 @@ returns-in_default-clause-done g c =
     let a = g.H.Disk.view c.args.host.now in
     let b = g.H.Disk.view c.pieces.host in
     let none : was.rest ≡ [] = subst (λ (o : Option Next). IsNextReading c.args.script.now was.rest o) c.in_default.is (c.in_ok-next.ensures.next was.rest was.left) in
-    of_trace c.args.script.now c.args.stops (database_in c.args.self.now) (λ (es : List Event). Done a b c.args.self.now c.pieces.self es)
+    of_trace c.args.script.now c.args.stops (database_in c.args.self.now) (λ (es : List Event). GoesOn a b c.args.self.now c.pieces.self es)
     (done_whole _ _ _ _ _ _ _ was none c.args.self.now c.pieces.self refl refl c.pieces.invariant.ready)
 
 pub returns-in_default-clause-ended : goal.returns-in_default-clause-ended
@@ -98,7 +98,7 @@ returns-then-ends_at-clause-done g c =
     let next = subst (λ (o : Option Next). IsNextReading c.args.script.now was.rest o) c.in-Some.is (c.in_ok-next.ensures.next was.rest was.left) in
     let error : (c.args.stops && is_failed (events c.in-Some.next.reading (database_in c.pieces.self))) ≡ true = ap (λ (b : Bool). c.args.stops && b) (sym c.in_ok-failed.ensures.ended.1) ∙ sym c.ends_at.ensures ∙ c.if-ends_at.true in
     let done = c.in_ok-failed.ensures.ended.0 in
-    of_trace c.args.script.now c.args.stops db (λ (es : List Event). Done a d c.args.self.now c.run_reading.new.self es)
+    of_trace c.args.script.now c.args.stops db (λ (es : List Event). GoesOn a d c.args.self.now c.run_reading.new.self es)
     (done_at_error _ _ _ _ _ _ _ was _ c.in-Some.next.reading next.0 next.1 c.run_reading.ensures.moments error c.args.self.now c.run_reading.new.self refl done.database done.ready (λ t. done.printed (was.moments.continues.told t)))
 
 pub returns-then-ends_at-clause-ended : goal.returns-then-ends_at-clause-ended

@@ -38,7 +38,7 @@ returns-clause-settled g c told = settles _ _ (c.recover.ensures.settled told)
 
 pub returns-clause-started : goal.returns-clause-started
 returns-clause-started g c =
-    started _ _ _ (all_stored c.in_ok-keeper.batches.items) (λ t. c.recover.ensures.writes.moments.continues.told_before t) c.in_ok-keeper.ensures.recovered refl c.in_ok-tables.ensures
+    started _ _ _ (all_stored c.in_ok-keeper.batches.items) (c.recover.ensures.writes.moments.continues.is_attached c.requires) (λ t. c.recover.ensures.writes.moments.continues.told_before t) c.in_ok-keeper.ensures.recovered refl c.in_ok-tables.ensures
 
 pub returns-clause-untouched : goal.returns-clause-untouched
 returns-clause-untouched g c told damage is = c.recover.ensures.untouched told (is_used _ damage is)

@@ -1,7 +1,7 @@
 use Rattle.std.proofs.Common.{◌≡◌, ◌∙◌, List, true, sym, ap}
 use Rattle.pl_base.specs.declared.value.Value.{Value}
-use Rattle.pl_meaning.specs.Database.{fits}
-use Rattle.pl_session.specs.Tables.{integer_column, table_of}
+use Rattle.pl_meaning.specs.Database.{fits, integer_column}
+use Rattle.pl_session.specs.Tables.{table_of}
 use Rattle.pl_session.proofs.Named.{put_done}
 use Rattle.pl_session.proofs.tables.Table.put.Goals as goal
 

@@ -1,5 +1,5 @@
 use Rattle.std.proofs.Common.{refl, sym}
-use Rattle.pl_session.specs.Tables.{integer_column}
+use Rattle.pl_meaning.specs.Database.{integer_column}
 use Rattle.pl_session.proofs.Named.{defined, new_table}
 use Rattle.pl_session.proofs.tables.Tables.define.Goals as goal
 
