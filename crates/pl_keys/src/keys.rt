@@ -1,0 +1,157 @@
+//! Rows of which each is found by its values.
+
+ghost use Rattle.std.specs.Prelude.{◌≡◌, ◌==◌, ℕ, [], ◌∷◌, ◌++◌, length, nat_eq, OnOk, OnErr, Some};
+ghost use Rattle.std.specs.HashMap.{get};
+ghost use Rattle.pl_keys.specs.Marks.{mark_of, noted};
+ghost use Rattle.pl_keys.specs.Same.{place_of, same};
+
+use crate::marks::mark_of;
+use pl_base::{Cells, Value};
+use pl_calc::is_distinct;
+use std::alloc::{AllocError, Global};
+use std::collections::HashMap;
+use std::marker::Model;
+
+/// Rows in the order in which they came. A row is found at the cost of its own length, while the
+/// rows of one mark are the same.
+#[derive(Drop)]
+pub struct Keys {
+    rows: Vec<Cells>,
+    /// The first row of each mark.
+    places: HashMap<u64, usize>,
+}
+
+impl Model for Keys {
+    ghost use Rattle.std.specs.Prelude.{◌≡◌, ◌==◌, ℕ, List, nat_eq};
+    ghost use Rattle.std.specs.HashMap.{get};
+    ghost use Rattle.pl_base.specs.declared.value.Value as base;
+    ghost use Rattle.pl_base.specs.contracts.value.Value as row;
+    ghost use Rattle.std.specs.Coded.{codes};
+    ghost use Rattle.pl_keys.specs.Marks.{mark_of};
+    ghost use Rattle.pl_keys.specs.Same.{place_of};
+
+    ghost Value = { List (List base.Value) };
+
+    ghost coded = { Prim.hlevel (codes, row.the_row.coded) };
+
+    ghost view = { λ k. k.rows.items };
+
+    ghost invariant = { λ k. (q : ℕ)
+        → get nat_eq k.places q ≡ place_of (λ row. mark_of row == q) k.rows.items };
+}
+
+impl Keys {
+    pub fn new(alloc: Global) -> Keys
+        ensures { result ≡ [] }
+    {
+        Keys {
+            rows: Vec::new(alloc),
+            places: HashMap::new(alloc),
+        }
+    }
+
+    pub fn len(&self) -> usize
+        ensures { result ≡ length self.now }
+    {
+        self.rows.len()
+    }
+
+    /// The place of the first row that is the same.
+    pub fn find(&self, row: &[Value]) -> Option<usize>
+        ensures { result ≡ place_of (same row.now) self.now }
+    {
+        let mark = mark_of(row);
+        match known(&self.places, mark) {
+            None => None,
+            Some(place) => place_near(self.rows.as_slice(), row, mark, place),
+        }
+    }
+
+    /// Puts the row behind the others.
+    pub fn add(&mut self, row: Cells) -> Result<(), AllocError>
+        ensures { OnOk result (self.new ≡ self.old ++ row ∷ []) }
+    {
+        self.rows.reserve(1)?;
+        note(&mut self.places, mark_of(row.as_slice()), self.rows.len())?;
+        self.rows.push(row).unwrap();
+        Ok(())
+    }
+
+    /// The rows themselves.
+    pub fn into_rows(self) -> Vec<Cells>
+        ensures { result.items ≡ self }
+    {
+        let Keys {
+            rows,
+            places: _places,
+        } = self;
+        rows
+    }
+}
+
+// Keeps the first place of a mark.
+fn note(places: &mut HashMap<u64, usize>, mark: u64, place: usize) -> Result<(), AllocError>
+    ensures ok { OnOk result ((q : ℕ)
+        → get nat_eq places.new q ≡ noted mark place q (get nat_eq places.old q)) }
+    ensures err { OnErr result ((q : ℕ) → get nat_eq places.new q ≡ get nat_eq places.old q) }
+{
+    if places.get(&mark).is_none() {
+        places.insert(mark, place)?;
+    }
+    Ok(())
+}
+
+fn known(places: &HashMap<u64, usize>, mark: u64) -> Option<usize>
+    ensures { result ≡ get nat_eq places.now mark }
+{
+    places.get(&mark).copied()
+}
+
+// The place of the first row that is the same, where the first row of its mark is known.
+fn place_near(rows: &[Cells], row: &[Value], mark: u64, place: usize) -> Option<usize>
+    requires marked { mark ≡ mark_of row.now }
+    requires first { place_of (λ other. mark_of other == mark) rows.now ≡ Some place }
+    ensures { result ≡ place_of (same row.now) rows.now }
+{
+    if place >= rows.len() {
+        return place_in(rows, row);
+    }
+    if is_same(row, rows[place].as_slice()) {
+        Some(place)
+    } else {
+        place_in(rows, row)
+    }
+}
+
+// The place of the first row that is the same, by trying each.
+fn place_in(rows: &[Cells], row: &[Value]) -> Option<usize>
+    ensures { result ≡ place_of (same row.now) rows.now }
+{
+    for (at, other) in rows.iter().enumerate() {
+        if is_same(row, other.as_slice()) {
+            return Some(at);
+        }
+    }
+    None
+}
+
+/// No two values of the rows are distinct.
+pub fn is_same(row: &[Value], other: &[Value]) -> bool
+    ensures { result ≡ same row.now other.now }
+{
+    let mut row = row;
+    let mut other = other;
+    loop {
+        let Some((a, more)) = row.split_first() else {
+            return other.is_empty();
+        };
+        let Some((b, others)) = other.split_first() else {
+            return false;
+        };
+        if is_distinct(a, b) != Some(false) {
+            return false;
+        }
+        row = more;
+        other = others;
+    }
+}
