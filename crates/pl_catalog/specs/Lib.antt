@@ -1,0 +1,3 @@
+pub mod Dependents
+pub mod Objects
+pub mod Refusals

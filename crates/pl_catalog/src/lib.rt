@@ -1,0 +1,11 @@
+//! The catalogue: tables, routines and triggers, in the order in which they were created.
+#![tactic(auto)]
+
+mod catalog;
+mod dependents;
+mod object;
+
+pub use catalog::{Catalog, CatalogFail};
+pub use object::{
+    Column, Events, Heading, Object, Routine, Rule, RuleKind, TableDef, TriggerDef, Which,
+};

@@ -1,0 +1,4 @@
+pub mod History
+pub mod HistoryLaws
+pub mod Pairs
+pub mod Undo
