@@ -1,0 +1,8 @@
+//! Tables: their rows by row id, and the undoing of what was changed.
+#![tactic(auto)]
+
+mod slots;
+mod table;
+
+pub use slots::Slot;
+pub use table::{Table, TableFail};

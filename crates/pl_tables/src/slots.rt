@@ -1,0 +1,85 @@
+//! Rows in the order of their ids, with the places of those that were removed.
+
+ghost use Rattle.std.specs.Prelude.{◌≡◌, ◌<◌, ◌≤◌, ◌-◌, [], Some, None, length, take};
+ghost use Rattle.pl_tables.specs.Rows.{row_at};
+ghost use Rattle.pl_tables.specs.Slots.{before, id_at, live, row_of, with_row, IsRising};
+
+use pl_base::Cells;
+use std::mem;
+
+/// A row, or where one was.
+#[derive(Drop)]
+pub struct Slot {
+    pub id: u64,
+    /// None where the row was removed.
+    pub row: Option<Cells>,
+}
+
+/// The place of the slot of this id. None where there is none.
+pub(crate) fn place_of(slots: &[Slot], id: u64) -> Option<usize>
+    requires { IsRising slots.now }
+    ensures some { (at : _) → result ≡ Some at → id_at slots.now at ≡ Some id }
+    ensures none { result ≡ None → row_at id (live slots.now) ≡ None }
+{
+    let mut low = 0;
+    let mut high = slots.len();
+    while low < high {
+        let middle = low + (high - low) / 2;
+        let found = slots[middle].id;
+        if found == id {
+            return Some(middle);
+        }
+        if found < id {
+            low = middle + 1;
+        } else {
+            high = middle;
+        }
+    }
+    None
+}
+
+/// Gives the slot at this place another row, or none, and answers the one that it had.
+pub(crate) fn swap_row(slots: &mut Vec<Slot>, at: usize, row: Option<Cells>) -> Option<Cells>
+    requires { at < length slots.old.items }
+    ensures slots { slots.new.items ≡ with_row slots.old.items at row }
+    ensures row { result ≡ row_of slots.old.items at }
+{
+    mem::replace(&mut slots[at].row, row)
+}
+
+/// Takes the last slot away, if there is one, and answers how many rows are left of this many.
+pub(crate) fn pop_slot(slots: &mut Vec<Slot>, count: usize) -> usize
+    requires { count ≡ length (live slots.old.items) }
+    ensures slots { slots.new.items ≡ take (length slots.old.items - 1) slots.old.items }
+    ensures count { result ≡ length (live slots.new.items) }
+{
+    match slots.pop() {
+        Some(slot) => less_row(count, &slot),
+        None => count,
+    }
+}
+
+fn less_row(count: usize, slot: &Slot) -> usize
+    requires { length (before slot.now.id slot.now.row []) ≤ count }
+    ensures { result ≡ count - length (before slot.now.id slot.now.row []) }
+{
+    match &slot.row {
+        Some(_) => count - 1,
+        None => count,
+    }
+}
+
+/// Gives the slot at this place, if there is one, this row. Answers how many rows there are then.
+pub(crate) fn restore(slots: &mut Vec<Slot>, at: usize, row: Cells, count: usize) -> usize
+    requires { count ≡ length (live slots.old.items) }
+    ensures slots { slots.new.items ≡ with_row slots.old.items at (Some row) }
+    ensures count { result ≡ length (live slots.new.items) }
+{
+    if at >= slots.len() {
+        return count;
+    }
+    match swap_row(slots, at, Some(row)) {
+        Some(_) => count,
+        None => count + 1,
+    }
+}
