@@ -1,0 +1,12 @@
+pub mod Aggregates
+pub mod Calls
+pub mod Cases
+pub mod Casts
+pub mod Functions
+pub mod Headings
+pub mod Literals
+pub mod Operators
+pub mod Resolved
+pub mod Subqueries
+pub mod Typing
+pub mod Unions
