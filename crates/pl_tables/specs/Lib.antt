@@ -1,3 +1,5 @@
+pub mod Named
+pub mod Places
 pub mod Rows
 pub mod Slots
 pub mod Undo

@@ -3,6 +3,8 @@
 
 mod slots;
 mod table;
+mod tables;
 
 pub use slots::Slot;
 pub use table::{Table, TableFail};
+pub use tables::Tables;

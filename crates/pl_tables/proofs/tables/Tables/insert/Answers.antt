@@ -1,0 +1,22 @@
+use Rattle.std.proofs.Common.{◌≡◌, ◌++◌, ◌∷◌, [], ◌∙◌, Some, List, sym, ap}
+use Rattle.std.specs.List.{position}
+use Rattle.pl_history.specs.History.{History, changed, history, seen_as}
+use Rattle.pl_tables.specs.declared.tables.Place.{Place}
+use Rattle.pl_tables.specs.declared.tables.Step.{Step}
+use Rattle.pl_tables.specs.declared.tables.Step.TheVariants.{Changed}
+use Rattle.pl_tables.specs.Rows.{inserted}
+use Rattle.pl_tables.specs.Named.{Named, on_table}
+use Rattle.pl_tables.specs.Places.{there, is_at, undo_step}
+use Rattle.pl_tables.proofs.Finding.{gone_on, there_changed, undone_change}
+use Rattle.pl_tables.proofs.tables.Tables.insert.Goals as goal
+
+pub returns-in-Ok-insert_at-clause-ok : goal.returns-in-Ok-insert_at-clause-ok
+returns-in-Ok-insert_at-clause-ok c =
+    let ps = c.self.inside.places.items in
+    let ss = c.self.inside.steps.items in
+    let at = c.in-Some.at in
+    let p : position (is_at c.args.name) ps ≡ Some at = sym (c.place_of.ensures ∙ ap (λ (l : List Place). position (is_at c.args.name) l) c.as_slice.ensures.value) ∙ c.in-Some.is in
+    let is : c.push_reserved.new.self.items ≡ ss ++ (Changed at) ∷ [] = c.push_reserved.ensures.items ∙ ap (λ (l : List Step). l ++ (Changed at) ∷ []) c.reserve.ensures.items in
+    gone_on ss c.push_reserved.new.self.items (Changed at) ps c.insert_at.new.places.items is (ap (undo_step (Changed at)) c.in-Ok-insert_at.ensures.ok ∙ undone_change c.args.name (inserted c.args.row) ps at)
+    ∙ (ap (λ (l : List Named). changed l (seen_as there (history undo_step ss ps))) (ap there c.in-Ok-insert_at.ensures.ok ∙ there_changed c.args.name (inserted c.args.row) ps at p)
+    ∙ ap (λ (h : History (List Named)). changed (on_table c.args.name (inserted c.args.row) h.current) h) c.self.view_is)

@@ -1,0 +1,22 @@
+use Rattle.std.proofs.Common.{◌≡◌, ◌∙◌, refl, Option, Some, ap, subst, length}
+use Rattle.std.specs.Prelude.{IsSome, slice_get, slice_set}
+use Rattle.std.proofs.lemmas.Option.{slice_get_read}
+use Rattle.pl_history.specs.History.{History}
+use Rattle.pl_tables.specs.declared.tables.Place.{Place}
+use Rattle.pl_tables.specs.Rows.{Content}
+use Rattle.pl_tables.specs.Places.{with_remove, row_in}
+use Rattle.pl_tables.proofs.Finding.{place_set}
+use Rattle.pl_tables.proofs.tables.remove_at.Goals as goal
+
+pub returns-in-Ok-clause-ok : goal.returns-in-Ok-clause-ok
+returns-in-Ok-clause-ok c =
+    let ps = c.args.places.now.items in
+    let has : slice_get ps c.args.at ≡ Some c.index_mut.result.now = slice_get_read ps (length ps) c.args.at c.index_mut.result.now refl c.requires.place c.index_mut.ensures.value in
+    ap (λ (h : History Content). slice_set ps c.args.at (let p : Place = record { name = c.index_mut.result.now.name; table = h; is_there = c.index_mut.result.now.is_there } in p)) c.in-Ok.ensures.ok
+    ∙ place_set ps c.args.at c.index_mut.result.now (with_remove c.args.id) has
+
+pub remove-requires : goal.remove-requires
+remove-requires c =
+    let ps = c.args.places.now.items in
+    let has : slice_get ps c.args.at ≡ Some c.index_mut.result.now = slice_get_read ps (length ps) c.args.at c.index_mut.result.now refl c.requires.place c.index_mut.ensures.value in
+    record { there = subst (λ (o : Option Place). IsSome (row_in c.args.id o)) has c.requires.there }

@@ -1,0 +1,297 @@
+//! Tables by their names.
+
+ghost use Rattle.std.specs.Prelude.{◌≡◌, ◌<◌, ◌-◌, ◌∷◌, ◌++◌, [], None, IsSome, true, false};
+ghost use Rattle.std.specs.Prelude.{length, option_map, slice_get, take, OnOk, OnErr};
+ghost use Rattle.std.specs.List.{position};
+ghost use Rattle.std.specs.Option.{option_copied};
+ghost use Rattle.pl_history.specs.History.{back, changed, settled};
+ghost use Rattle.pl_tables.specs.Rows.{inserted, no_rows, removed, replaced};
+ghost use Rattle.pl_tables.specs.Named.{content_named, named, on_table, row_named, without_table};
+ghost use Rattle.pl_tables.specs.Places.{gone, is_at, row_in, undone_place, with_insert};
+ghost use Rattle.pl_tables.specs.Places.{settled_place, there, with_place, with_remove, with_replace};
+
+use crate::{Table, TableFail};
+use pl_base::{Cells, Name};
+use std::alloc::{AllocError, Global};
+use std::marker::Model;
+
+/// A table and its name, or where one was.
+#[derive(Drop)]
+pub struct Place {
+    name: Name,
+    table: Table,
+    is_there: bool,
+}
+
+// How a change is undone.
+#[derive(Clone, Copy)]
+pub enum Step {
+    /// The last place goes.
+    Created,
+    /// The table at this place is there again.
+    Dropped(usize),
+    /// The newest change of the table at this place is undone.
+    Changed(usize),
+}
+
+/// Tables in the order in which they were created, and what is needed to undo changes of them.
+#[derive(Drop)]
+pub struct Tables {
+    alloc: Global,
+    places: Vec<Place>,
+    steps: Vec<Step>,
+}
+
+impl Model for Tables {
+    ghost use Rattle.std.specs.Prelude.{List};
+    ghost use Rattle.std.specs.Coded.{codes};
+    ghost use Rattle.pl_base.specs.contracts.value.Value as value;
+    ghost use Rattle.pl_history.specs.History.{History, history, seen_as};
+    ghost use Rattle.pl_tables.specs.Named.{Named};
+    ghost use Rattle.pl_tables.specs.Places.{there, undo_step};
+
+    ghost Value = { History (List Named) };
+
+    ghost coded = { Prim.hlevel (codes, value.the_row.coded) };
+
+    ghost view = { λ t. seen_as there (history undo_step t.steps.items t.places.items) };
+}
+
+impl Tables {
+    /// No tables.
+    pub fn new(alloc: Global) -> Tables
+        ensures current { result.current ≡ [] }
+        ensures past { result.past ≡ [] }
+    {
+        Tables {
+            alloc,
+            places: Vec::new(alloc),
+            steps: Vec::new(alloc),
+        }
+    }
+
+    /// How many changes can be undone.
+    pub fn changes(&self) -> usize
+        ensures { result ≡ length self.now.past }
+    {
+        self.steps.len()
+    }
+
+    /// The table of this name. None where there is none.
+    pub fn table(&self, name: Name) -> Option<&Table>
+        ensures { option_map (λ t. t.current) (option_copied result)
+            ≡ content_named name self.now.current }
+    {
+        match place_of(self.places.as_slice(), &name) {
+            Some(at) => Some(&self.places[at].table),
+            None => None,
+        }
+    }
+
+    /// Adds a table without rows, of a name that no table has.
+    pub fn create(&mut self, name: Name) -> Result<(), AllocError>
+        requires absent { content_named name self.old.current ≡ None }
+        ensures ok { OnOk result (self.new
+            ≡ changed (self.old.current ++ named name no_rows ∷ []) self.old) }
+        ensures err { OnErr result (self.new ≡ self.old) }
+    {
+        self.steps.reserve(1)?;
+        self.places.reserve(1)?;
+        self.places.push_reserved(Place {
+            name,
+            table: Table::new(self.alloc),
+            is_there: true,
+        });
+        self.steps.push_reserved(Step::Created);
+        Ok(())
+    }
+
+    /// Takes the table of this name out.
+    pub fn drop_table(&mut self, name: Name) -> Result<(), AllocError>
+        requires there { IsSome (content_named name self.old.current) }
+        ensures ok { OnOk result (self.new
+            ≡ changed (without_table name self.old.current) self.old) }
+        ensures err { OnErr result (self.new ≡ self.old) }
+    {
+        self.steps.reserve(1)?;
+        if let Some(at) = place_of(self.places.as_slice(), &name) {
+            take_out(&mut self.places, at);
+            self.steps.push_reserved(Step::Dropped(at));
+        }
+        Ok(())
+    }
+
+    /// Adds the row to the table of this name, and answers its id.
+    pub fn insert(&mut self, name: Name, row: Cells) -> Result<u64, TableFail>
+        requires there { IsSome (content_named name self.old.current) }
+        ensures ok { OnOk result (self.new
+            ≡ changed (on_table name (inserted row) self.old.current) self.old) }
+        ensures err { OnErr result (self.new ≡ self.old) }
+    {
+        match self.steps.reserve(1) {
+            Err(_) => Err(TableFail::Memory),
+            Ok(()) => match place_of(self.places.as_slice(), &name) {
+                None => Err(TableFail::Memory),
+                Some(at) => match insert_at(&mut self.places, at, row) {
+                    Err(fail) => Err(fail),
+                    Ok(id) => {
+                        self.steps.push_reserved(Step::Changed(at));
+                        Ok(id)
+                    }
+                },
+            },
+        }
+    }
+
+    /// Puts the row in the place of the one of this id, in the table of this name.
+    pub fn replace(&mut self, name: Name, id: u64, row: Cells) -> Result<(), AllocError>
+        requires there { IsSome (row_named name id self.old.current) }
+        ensures ok { OnOk result (self.new
+            ≡ changed (on_table name (replaced id row) self.old.current) self.old) }
+        ensures err { OnErr result (self.new ≡ self.old) }
+    {
+        self.steps.reserve(1)?;
+        match place_of(self.places.as_slice(), &name) {
+            None => Ok(()),
+            Some(at) => match replace_at(&mut self.places, at, id, row) {
+                Err(fail) => Err(fail),
+                Ok(()) => {
+                    self.steps.push_reserved(Step::Changed(at));
+                    Ok(())
+                }
+            },
+        }
+    }
+
+    /// Takes the row of this id out of the table of this name.
+    pub fn remove(&mut self, name: Name, id: u64) -> Result<(), AllocError>
+        requires there { IsSome (row_named name id self.old.current) }
+        ensures ok { OnOk result (self.new
+            ≡ changed (on_table name (removed id) self.old.current) self.old) }
+        ensures err { OnErr result (self.new ≡ self.old) }
+    {
+        self.steps.reserve(1)?;
+        match place_of(self.places.as_slice(), &name) {
+            None => Ok(()),
+            Some(at) => match remove_at(&mut self.places, at, id) {
+                Err(fail) => Err(fail),
+                Ok(()) => {
+                    self.steps.push_reserved(Step::Changed(at));
+                    Ok(())
+                }
+            },
+        }
+    }
+
+    /// Undoes the newest change, if there is one.
+    pub fn undo(&mut self)
+        ensures back { self.new ≡ back self.old }
+    {
+        match self.steps.pop() {
+            Some(Step::Created) => pop_place(&mut self.places),
+            Some(Step::Dropped(at)) => bring_back(&mut self.places, at),
+            Some(Step::Changed(at)) => undo_at(&mut self.places, at),
+            None => {}
+        }
+    }
+
+    /// No change can be undone from now on.
+    pub fn forget(&mut self)
+        ensures settled { self.new ≡ settled self.old }
+    {
+        settle(&mut self.places, &mut self.steps);
+    }
+}
+
+// Forgets how the changes are undone.
+fn settle(places: &mut Vec<Place>, steps: &mut Vec<Step>)
+    ensures places { there places.new.items ≡ there places.old.items }
+    ensures steps { steps.new.items ≡ [] }
+{
+    while let Some(step) = steps.pop() {
+        if let Step::Changed(at) = step {
+            settle_at(places, at);
+        }
+    }
+}
+
+fn settle_at(places: &mut Vec<Place>, at: usize)
+    ensures { places.new.items ≡ with_place places.old.items at settled_place }
+{
+    if at < places.len() {
+        places[at].table.forget();
+    }
+}
+
+fn place_of(places: &[Place], name: &Name) -> Option<usize>
+    ensures { result ≡ position (is_at name.now) places.now }
+{
+    places
+        .iter()
+        .position(|place| place.is_there && place.name == *name)
+}
+
+fn insert_at(places: &mut Vec<Place>, at: usize, row: Cells) -> Result<u64, TableFail>
+    requires { at < length places.old.items }
+    ensures ok { OnOk result (places.new.items ≡ with_place places.old.items at (with_insert row)) }
+    ensures err { OnErr result (places.new.items ≡ places.old.items) }
+{
+    match places[at].table.insert(row) {
+        Ok(id) => Ok(id),
+        Err(fail) => Err(fail),
+    }
+}
+
+fn replace_at(places: &mut Vec<Place>, at: usize, id: u64, row: Cells) -> Result<(), AllocError>
+    requires place { at < length places.old.items }
+    requires there { IsSome (row_in id (slice_get places.old.items at)) }
+    ensures ok { OnOk result (places.new.items
+        ≡ with_place places.old.items at (with_replace id row)) }
+    ensures err { OnErr result (places.new.items ≡ places.old.items) }
+{
+    match places[at].table.replace(id, row) {
+        Ok(()) => Ok(()),
+        Err(fail) => Err(fail),
+    }
+}
+
+fn remove_at(places: &mut Vec<Place>, at: usize, id: u64) -> Result<(), AllocError>
+    requires place { at < length places.old.items }
+    requires there { IsSome (row_in id (slice_get places.old.items at)) }
+    ensures ok { OnOk result (places.new.items ≡ with_place places.old.items at (with_remove id)) }
+    ensures err { OnErr result (places.new.items ≡ places.old.items) }
+{
+    match places[at].table.remove(id) {
+        Ok(()) => Ok(()),
+        Err(fail) => Err(fail),
+    }
+}
+
+fn take_out(places: &mut Vec<Place>, at: usize)
+    requires { at < length places.old.items }
+    ensures { places.new.items ≡ with_place places.old.items at (gone false) }
+{
+    places[at].is_there = false;
+}
+
+fn bring_back(places: &mut Vec<Place>, at: usize)
+    ensures { places.new.items ≡ with_place places.old.items at (gone true) }
+{
+    if at < places.len() {
+        places[at].is_there = true;
+    }
+}
+
+fn undo_at(places: &mut Vec<Place>, at: usize)
+    ensures { places.new.items ≡ with_place places.old.items at undone_place }
+{
+    if at < places.len() {
+        places[at].table.undo();
+    }
+}
+
+fn pop_place(places: &mut Vec<Place>)
+    ensures { places.new.items ≡ take (length places.old.items - 1) places.old.items }
+{
+    places.pop();
+}
