@@ -1,0 +1,18 @@
+//! What names mean where they stand, and what a FROM has: the steps of resolution that look names
+//! up. Nothing here goes down a tree.
+#![tactic(auto)]
+
+mod found;
+mod names;
+mod scope;
+mod sources;
+
+pub use found::Meaning;
+pub use names::{
+    is_column, known_types, name_means, named, parameter, parameter_means, qualified,
+    qualified_means,
+};
+pub use scope::{Level, Names, Scope, Seen, Shape, Source, Visible};
+pub use sources::{
+    COLUMN_LIMIT, Items, Sourced, columns_of, derived, every_column, table, together, valued,
+};
