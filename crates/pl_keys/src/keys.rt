@@ -69,7 +69,8 @@ impl Keys {
 
     /// Puts the row behind the others.
     pub fn add(&mut self, row: Cells) -> Result<(), AllocError>
-        ensures { OnOk result (self.new ≡ self.old ++ row ∷ []) }
+        ensures ok { OnOk result (self.new ≡ self.old ++ row ∷ []) }
+        ensures err { OnErr result (self.new ≡ self.old) }
     {
         self.rows.reserve(1)?;
         note(&mut self.places, mark_of(row.as_slice()), self.rows.len())?;

@@ -1,4 +1,4 @@
-//! Rows of which no two are the same, found by their values.
+//! Rows found by their values: those that GROUP BY and DISTINCT take for one.
 #![tactic(auto)]
 
 mod keys;
