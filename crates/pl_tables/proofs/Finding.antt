@@ -1,6 +1,6 @@
 -- The place of a name, and the table that is there.
 use Rattle.std.proofs.Common.{◌≡◌, ◌≤◌, ◌<◌, ◌+◌, ◌&&◌, ℕ, zero, suc, List, [], ◌∷◌, ◌++◌, length, cond, not, nat_lt, nat_eq, Bool, true, false, Option, Some, None, refl, sym, ◌∙◌, ap, arith}
-use Rattle.std.specs.Prelude.{IsSome, slice_get, slice_set}
+use Rattle.std.specs.Prelude.{IsSome, option_map, slice_get, slice_set}
 use Rattle.std.specs.List.{position, position_or_len, prefix_len}
 use Rattle.std.specs.Cmp.Lexicographic.{pointwise}
 use Rattle.std.proofs.lemmas.Bool.Decides.{nat_tests}
@@ -10,9 +10,9 @@ use Rattle.pl_history.specs.HistoryLaws.{history_changed, history_back, seen_cha
 use Rattle.pl_tables.specs.declared.tables.Place.{Place}
 use Rattle.pl_tables.specs.declared.tables.Step.{Step}
 use Rattle.pl_tables.specs.declared.tables.Step.TheVariants.{Created}
-use Rattle.pl_tables.specs.Rows.{Content, row_at}
-use Rattle.pl_tables.specs.Named.{Named, named, content_named, on_table, without_table, row_named, rows_of}
-use Rattle.pl_tables.specs.Places.{kept, there, is_at, with_place, undone_place, row_in, gone, undo_step}
+use Rattle.pl_tables.specs.Rows.{Content, is_full, row_at}
+use Rattle.pl_tables.specs.Named.{Named, named, content_named, is_full_named, next_named, on_table, without_table, row_named, rows_of}
+use Rattle.pl_tables.specs.Places.{is_full_in, next_in, kept, there, is_at, with_place, undone_place, row_in, gone, undo_step}
 
 no_place : (n m : ℕ) → (let o : Option ℕ = cond (nat_lt n m) (Some n) None in o ≡ None) → m ≤ n
 no_place n m is = grind (arith, nat_tests)
@@ -168,6 +168,12 @@ no_row (Some r) h e = absurd cc
 -- the row of a table of a name is that of its place
 pub row_found : (name : List ℕ) (id : ℕ) (ps : List Place) (at : ℕ) (q : Place) → position (is_at name) ps ≡ Some at → slice_get ps at ≡ Some q → row_named name id (there ps) ≡ row_in id (slice_get ps at)
 row_found name id ps at q is has = ap (λ (o : Option Content). row_at id (rows_of o)) (is_found name ps at q is has) ∙ sym (ap (row_in id) has)
+
+pub next_found : (name : List ℕ) (ps : List Place) (at : ℕ) (q : Place) → position (is_at name) ps ≡ Some at → slice_get ps at ≡ Some q → next_named name (there ps) ≡ next_in (slice_get ps at)
+next_found name ps at q is has = ap (option_map (λ (c : Content). c.next)) (is_found name ps at q is has) ∙ sym (ap next_in has)
+
+pub full_found : (name : List ℕ) (ps : List Place) (at : ℕ) (q : Place) → position (is_at name) ps ≡ Some at → slice_get ps at ≡ Some q → is_full_named name (there ps) ≡ is_full_in (slice_get ps at)
+full_found name ps at q is has = ap (option_map is_full) (is_found name ps at q is has) ∙ sym (ap is_full_in has)
 
 pub row_absent : (name : List ℕ) (id : ℕ) (ps : List Place) → position (is_at name) ps ≡ None → row_named name id (there ps) ≡ None
 row_absent name id ps is = ap (λ (o : Option Content). row_at id (rows_of o)) (not_there name ps is)

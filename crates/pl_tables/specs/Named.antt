@@ -1,8 +1,9 @@
 -- Tables with their names.
-use Rattle.std.specs.Prelude.{ℕ, nat_eq, if◌then◌else◌, List, [], ◌∷◌, Option, None, Some}
+use Rattle.std.specs.Prelude.{ℕ, Bool, nat_eq, if◌then◌else◌, List, [], ◌∷◌, Option, None, Some}
+use Rattle.std.specs.Prelude.{option_map}
 use Rattle.std.specs.Cmp.Lexicographic.{pointwise}
 use Rattle.pl_base.specs.declared.value.Value.{Value}
-use Rattle.pl_tables.specs.Rows.{Content, row_at}
+use Rattle.pl_tables.specs.Rows.{Content, is_full, row_at}
 
 pub record Named : Type 0 where
   pub name : List ℕ
@@ -16,6 +17,14 @@ abbrev pub content_named : List ℕ → List Named → Option Content
 content_named name [] = None
 content_named name (t ∷ ts) =
     if pointwise nat_eq t.name name then Some t.content else content_named name ts
+
+-- the id that the next new row of the table of this name gets
+abbrev pub next_named : List ℕ → List Named → Option ℕ
+next_named name ts = option_map (λ (c : Content). c.next) (content_named name ts)
+
+-- whether the table of this name is full
+abbrev pub is_full_named : List ℕ → List Named → Option Bool
+is_full_named name ts = option_map is_full (content_named name ts)
 
 abbrev pub rows_of : Option Content → List (ℕ × List Value)
 rows_of None = []

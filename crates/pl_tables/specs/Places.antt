@@ -1,6 +1,6 @@
 -- The tables that places hold.
 use Rattle.std.specs.Prelude.{ℕ, zero, suc, ◌-◌, ◌&&◌, Bool, true, nat_eq, if◌then◌else◌}
-use Rattle.std.specs.Prelude.{List, [], ◌∷◌, length, take, Option, None, Some}
+use Rattle.std.specs.Prelude.{List, [], ◌∷◌, length, take, Option, None, Some, option_map}
 use Rattle.std.specs.Cmp.Lexicographic.{pointwise}
 use Rattle.pl_base.specs.declared.value.Value.{Value}
 use Rattle.pl_history.specs.History.{back, changed, settled}
@@ -8,7 +8,7 @@ use Rattle.pl_tables.specs.declared.tables.Place.{Place}
 use Rattle.pl_tables.specs.declared.tables.Step.{Step}
 use Rattle.pl_tables.specs.declared.tables.Step.TheVariants.{Created, Dropped, Changed}
 use Rattle.pl_tables.specs.Named.{Named, named}
-use Rattle.pl_tables.specs.Rows.{inserted, removed, replaced, row_at}
+use Rattle.pl_tables.specs.Rows.{inserted, is_full, removed, replaced, row_at}
 
 abbrev pub kept : Bool → Named → List Named → List Named
 kept is_there t ts = if is_there then t ∷ ts else ts
@@ -44,6 +44,13 @@ with_remove id p =
 abbrev pub row_in : ℕ → Option Place → Option (List Value)
 row_in id None = None
 row_in id (Some p) = row_at id p.table.current.rows
+
+-- the next id of the table at the place, and whether it is full
+abbrev pub next_in : Option Place → Option ℕ
+next_in place = option_map (λ (p : Place). p.table.current.next) place
+
+abbrev pub is_full_in : Option Place → Option Bool
+is_full_in place = option_map (λ (p : Place). is_full p.table.current) place
 
 abbrev pub settled_place : Place → Place
 settled_place p = record { name = p.name; table = settled p.table; is_there = p.is_there }

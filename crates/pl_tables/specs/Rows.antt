@@ -1,4 +1,4 @@
--- The rows of a table. A row has an id, which no other row of the table ever gets.
+-- The rows of a table. A row has an id, which no later row gets, unless the row is undone.
 use Rattle.std.specs.Prelude.{ℕ, Bool, ◌+◌, ◌^◌, ◌||◌, ◌++◌, length, nat_eq, nat_le}
 use Rattle.std.specs.Prelude.{List, [], ◌∷◌, Option}
 use Rattle.std.specs.Map.{lookup, set_value, remove_entry}

@@ -1,13 +1,14 @@
 //! Tables by their names.
 
 ghost use Rattle.std.specs.Prelude.{◌≡◌, ◌<◌, ◌-◌, ◌∷◌, ◌++◌, [], None, IsSome, true, false};
-ghost use Rattle.std.specs.Prelude.{length, option_map, slice_get, take, OnOk, OnErr};
+ghost use Rattle.std.specs.Prelude.{length, option_map, slice_get, take, Err, IfOk, OnOk, OnErr, Some};
 ghost use Rattle.std.specs.List.{position};
 ghost use Rattle.std.specs.Option.{option_copied};
 ghost use Rattle.pl_history.specs.History.{back, changed, settled};
 ghost use Rattle.pl_tables.specs.Rows.{inserted, no_rows, removed, replaced};
-ghost use Rattle.pl_tables.specs.Named.{content_named, named, on_table, row_named, without_table};
-ghost use Rattle.pl_tables.specs.Places.{gone, is_at, row_in, undone_place, with_insert};
+ghost use Rattle.pl_tables.specs.Named.{content_named, is_full_named, named, next_named, on_table};
+ghost use Rattle.pl_tables.specs.Named.{row_named, without_table};
+ghost use Rattle.pl_tables.specs.Places.{gone, is_at, is_full_in, next_in, row_in, undone_place, with_insert};
 ghost use Rattle.pl_tables.specs.Places.{settled_place, there, with_place, with_remove, with_replace};
 
 use crate::{Table, TableFail};
@@ -124,6 +125,9 @@ impl Tables {
     /// Adds the row to the table of this name, and answers its id.
     pub fn insert(&mut self, name: Name, row: Cells) -> Result<u64, TableFail>
         requires there { IsSome (content_named name self.old.current) }
+        ensures full { result ≡ Err TableFail.Full
+            → is_full_named name self.old.current ≡ Some true }
+        ensures id { IfOk result (λ id. next_named name self.old.current ≡ Some id) }
         ensures ok { OnOk result (self.new
             ≡ changed (on_table name (inserted row) self.old.current) self.old) }
         ensures err { OnErr result (self.new ≡ self.old) }
@@ -233,6 +237,9 @@ fn place_of(places: &[Place], name: &Name) -> Option<usize>
 
 fn insert_at(places: &mut Vec<Place>, at: usize, row: Cells) -> Result<u64, TableFail>
     requires { at < length places.old.items }
+    ensures full { result ≡ Err TableFail.Full
+        → is_full_in (slice_get places.old.items at) ≡ Some true }
+    ensures id { IfOk result (λ id. next_in (slice_get places.old.items at) ≡ Some id) }
     ensures ok { OnOk result (places.new.items ≡ with_place places.old.items at (with_insert row)) }
     ensures err { OnErr result (places.new.items ≡ places.old.items) }
 {

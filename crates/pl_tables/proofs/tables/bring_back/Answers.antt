@@ -1,4 +1,4 @@
-use Rattle.std.proofs.Common.{true, false, ◌≡◌, ◌<◌, refl, Some, sym, vec_len, length, rules, arith}
+use Rattle.std.proofs.Common.{true, ◌≡◌, ◌<◌, refl, Some, sym, vec_len, length, rules, arith}
 use Rattle.std.specs.Prelude.{slice_get}
 use Rattle.std.proofs.lemmas.Option.{slice_get_read}
 use Rattle.pl_tables.specs.Places.{gone}

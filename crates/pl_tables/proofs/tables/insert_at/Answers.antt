@@ -1,10 +1,10 @@
-use Rattle.std.proofs.Common.{◌≡◌, ◌∙◌, refl, Some, ap, length}
+use Rattle.std.proofs.Common.{◌≡◌, ◌∙◌, refl, sym, Some, ℕ, Option, ap, length}
 use Rattle.std.specs.Prelude.{slice_get, slice_set}
 use Rattle.std.proofs.lemmas.Option.{slice_get_read}
 use Rattle.pl_history.specs.History.{History}
 use Rattle.pl_tables.specs.declared.tables.Place.{Place}
 use Rattle.pl_tables.specs.Rows.{Content}
-use Rattle.pl_tables.specs.Places.{with_insert}
+use Rattle.pl_tables.specs.Places.{with_insert, next_in}
 use Rattle.pl_tables.proofs.Finding.{place_set}
 use Rattle.pl_tables.proofs.tables.insert_at.Goals as goal
 
@@ -14,3 +14,9 @@ returns-in-Ok-clause-ok c =
     let has : slice_get ps c.args.at ≡ Some c.index_mut.result.now = slice_get_read ps (length ps) c.args.at c.index_mut.result.now refl c.requires c.index_mut.ensures.value in
     ap (λ (h : History Content). slice_set ps c.args.at (let p : Place = record { name = c.index_mut.result.now.name; table = h; is_there = c.index_mut.result.now.is_there } in p)) c.in-Ok.ensures.ok
     ∙ place_set ps c.args.at c.index_mut.result.now (with_insert c.args.row) has
+
+pub returns-in-Ok-clause-id : goal.returns-in-Ok-clause-id
+returns-in-Ok-clause-id c =
+    let ps = c.args.places.now.items in
+    let has : slice_get ps c.args.at ≡ Some c.index_mut.result.now = slice_get_read ps (length ps) c.args.at c.index_mut.result.now refl c.requires c.index_mut.ensures.value in
+    ap next_in has ∙ ap (λ (n : ℕ). let o : Option ℕ = Some n in o) (sym c.in-Ok.ensures.id)

@@ -5,9 +5,9 @@ use Rattle.pl_tables.specs.declared.tables.Place.{Place}
 use Rattle.pl_tables.specs.declared.tables.Step.{Step}
 use Rattle.pl_tables.specs.declared.tables.Step.TheVariants.{Changed}
 use Rattle.pl_tables.specs.Rows.{inserted}
-use Rattle.pl_tables.specs.Named.{Named, on_table}
+use Rattle.pl_tables.specs.Named.{Named, is_full_named, on_table, next_named}
 use Rattle.pl_tables.specs.Places.{there, is_at, undo_step}
-use Rattle.pl_tables.proofs.Finding.{gone_on, there_changed, undone_change}
+use Rattle.pl_tables.proofs.Finding.{gone_on, there_changed, undone_change, some_place, within, full_found, next_found}
 use Rattle.pl_tables.proofs.tables.Tables.insert.Goals as goal
 
 pub returns-in-Ok-insert_at-clause-ok : goal.returns-in-Ok-insert_at-clause-ok
@@ -20,3 +20,19 @@ returns-in-Ok-insert_at-clause-ok c =
     gone_on ss c.push_reserved.new.self.items (Changed at) ps c.insert_at.new.places.items is (ap (undo_step (Changed at)) c.in-Ok-insert_at.ensures.ok ∙ undone_change c.args.name (inserted c.args.row) ps at)
     ∙ (ap (λ (l : List Named). changed l (seen_as there (history undo_step ss ps))) (ap there c.in-Ok-insert_at.ensures.ok ∙ there_changed c.args.name (inserted c.args.row) ps at p)
     ∙ ap (λ (h : History (List Named)). changed (on_table c.args.name (inserted c.args.row) h.current) h) c.self.view_is)
+
+pub returns-in-Ok-insert_at-clause-id : goal.returns-in-Ok-insert_at-clause-id
+returns-in-Ok-insert_at-clause-id c =
+    let ps = c.self.inside.places.items in
+    let at = c.in-Some.at in
+    let p : position (is_at c.args.name) ps ≡ Some at = sym (c.place_of.ensures ∙ ap (λ (l : List Place). position (is_at c.args.name) l) c.as_slice.ensures.value) ∙ c.in-Some.is in
+    let q = some_place ps at (within c.args.name ps at p) in
+    sym (ap (λ (h : History (List Named)). next_named c.args.name h.current) c.self.view_is) ∙ (next_found c.args.name ps at q.0 p q.1 ∙ c.in-Ok-insert_at.ensures.id)
+
+pub returns-in-Err-insert_at-clause-full : goal.returns-in-Err-insert_at-clause-full
+returns-in-Err-insert_at-clause-full c = λ e.
+    let ps = c.self.inside.places.items in
+    let at = c.in-Some.at in
+    let p : position (is_at c.args.name) ps ≡ Some at = sym (c.place_of.ensures ∙ ap (λ (l : List Place). position (is_at c.args.name) l) c.as_slice.ensures.value) ∙ c.in-Some.is in
+    let q = some_place ps at (within c.args.name ps at p) in
+    sym (ap (λ (h : History (List Named)). is_full_named c.args.name h.current) c.self.view_is) ∙ (full_found c.args.name ps at q.0 p q.1 ∙ c.in-Err-insert_at.ensures.full e)
