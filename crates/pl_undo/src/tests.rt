@@ -1,0 +1,191 @@
+//! A sequence of changes and marks.
+
+ghost use Rattle.std.specs.Prelude.{◌≡◌, IsSome, None, true, false};
+ghost use Rattle.pl_tables.specs.Named.{content_named, row_named};
+
+use crate::{Mark, Store};
+use pl_base::{Cells, List, Name, Value};
+use std::alloc::{AllocError, Global};
+use std::test::Fail;
+
+#[derive(Clone, Copy)]
+enum Step {
+    Create,
+    Drop,
+    Insert(i32),
+    Replace(u64, i32),
+    Remove(u64),
+    Mark,
+    RollBack(usize),
+    Release(usize),
+    Seal,
+    Reset,
+}
+
+fn row(alloc: Global, number: i32) -> Result<Cells, AllocError> {
+    let mut row = List::new(alloc);
+    row.push(Value::Int(number))?;
+    Ok(row)
+}
+
+fn has_table(store: &Store, name: Name) -> bool
+    ensures there { result ≡ true → IsSome (content_named name store.now.tables) }
+    ensures absent { result ≡ false → content_named name store.now.tables ≡ None }
+{
+    store.tables().table(name).is_some()
+}
+
+fn has_row(store: &Store, name: Name, id: u64) -> bool
+    ensures there { result ≡ true → IsSome (row_named name id store.now.tables) }
+{
+    match store.tables().table(name) {
+        Some(table) => table.row(id).is_some(),
+        None => false,
+    }
+}
+
+fn create(store: &mut Store, name: Name) -> Result<(), Fail> {
+    if has_table(store, name) {
+        return Err(Fail::new("the table is there"));
+    }
+    store.create(name)?;
+    Ok(())
+}
+
+fn drop_table(store: &mut Store, name: Name) -> Result<(), Fail> {
+    if !has_table(store, name) {
+        return Err(Fail::new("no table"));
+    }
+    store.drop_table(name)?;
+    Ok(())
+}
+
+fn insert(store: &mut Store, name: Name, row: Cells) -> Result<(), Fail> {
+    if !has_table(store, name) {
+        return Err(Fail::new("no table"));
+    }
+    match store.insert(name, row) {
+        Ok(_) => Ok(()),
+        Err(_) => Err(Fail::new("no row is added")),
+    }
+}
+
+fn replace(store: &mut Store, name: Name, id: u64, row: Cells) -> Result<(), Fail> {
+    if !has_row(store, name, id) {
+        return Err(Fail::new("no row"));
+    }
+    store.replace(name, id, row)?;
+    Ok(())
+}
+
+fn remove(store: &mut Store, name: Name, id: u64) -> Result<(), Fail> {
+    if !has_row(store, name, id) {
+        return Err(Fail::new("no row"));
+    }
+    store.remove(name, id)?;
+    Ok(())
+}
+
+fn mark(store: &mut Store) -> Result<(), Fail> {
+    store.reserve_mark()?;
+    let _mark = store.mark();
+    Ok(())
+}
+
+fn roll_back(store: &mut Store, at: usize) -> Result<(), Fail> {
+    if at >= store.depth() {
+        return Err(Fail::new("no mark"));
+    }
+    store.roll_back(&Mark { at });
+    Ok(())
+}
+
+fn release(store: &mut Store, at: usize) -> Result<(), Fail> {
+    if at >= store.depth() {
+        return Err(Fail::new("no mark"));
+    }
+    store.release(Mark { at });
+    Ok(())
+}
+
+fn play(alloc: Global, store: &mut Store, name: Name, step: Step) -> Result<(), Fail> {
+    match step {
+        Step::Create => create(store, name),
+        Step::Drop => drop_table(store, name),
+        Step::Insert(number) => insert(store, name, row(alloc, number)?),
+        Step::Replace(id, number) => replace(store, name, id, row(alloc, number)?),
+        Step::Remove(id) => remove(store, name, id),
+        Step::Mark => mark(store),
+        Step::RollBack(at) => roll_back(store, at),
+        Step::Release(at) => release(store, at),
+        Step::Seal => {
+            store.seal();
+            Ok(())
+        }
+        Step::Reset => {
+            store.reset();
+            Ok(())
+        }
+    }
+}
+
+// The ids of the rows and their numbers. None where there is no table.
+fn rows_of(alloc: Global, store: &Store, name: Name) -> Result<Option<Vec<(u64, i32)>>, Fail> {
+    let Some(table) = store.tables().table(name) else {
+        return Ok(None);
+    };
+    let mut rows = Vec::new(alloc);
+    for slot in table.slots() {
+        if let Some(row) = &slot.row {
+            if let Some(Value::Int(number)) = row.get(0) {
+                rows.push((slot.id, *number))?;
+            }
+        }
+    }
+    Ok(Some(rows))
+}
+
+#[test]
+fn a_roll_back_brings_back_what_was(rt: HostRuntime) -> Result<(), Fail> {
+    let alloc = rt.alloc();
+    let Some(name) = Name::of("t") else {
+        return Err(Fail::new("no name"));
+    };
+    let mut store = Store::new(alloc);
+    for (step, rows, depth) in [
+        (Step::Create, Some([].as_slice()), 0),
+        (Step::Insert(10), Some([(1, 10)].as_slice()), 0),
+        (Step::Seal, Some([(1, 10)].as_slice()), 0),
+        (Step::Mark, Some([(1, 10)].as_slice()), 1),
+        (Step::Insert(20), Some([(1, 10), (2, 20)].as_slice()), 1),
+        (Step::Mark, Some([(1, 10), (2, 20)].as_slice()), 2),
+        (Step::Remove(1), Some([(2, 20)].as_slice()), 2),
+        (Step::Replace(2, 21), Some([(2, 21)].as_slice()), 2),
+        (Step::Mark, Some([(2, 21)].as_slice()), 3),
+        (Step::Insert(30), Some([(2, 21), (3, 30)].as_slice()), 3),
+        (Step::RollBack(1), Some([(1, 10), (2, 20)].as_slice()), 2),
+        (
+            Step::Insert(31),
+            Some([(1, 10), (2, 20), (3, 31)].as_slice()),
+            2,
+        ),
+        (Step::RollBack(1), Some([(1, 10), (2, 20)].as_slice()), 2),
+        (Step::Remove(2), Some([(1, 10)].as_slice()), 2),
+        (Step::Release(1), Some([(1, 10)].as_slice()), 1),
+        (Step::Drop, None, 1),
+        (Step::Create, Some([].as_slice()), 1),
+        (Step::Insert(40), Some([(1, 40)].as_slice()), 1),
+        (Step::RollBack(0), Some([(1, 10)].as_slice()), 1),
+        (Step::Insert(22), Some([(1, 10), (2, 22)].as_slice()), 1),
+        (Step::Reset, Some([(1, 10)].as_slice()), 0),
+        (Step::Insert(23), Some([(1, 10), (2, 23)].as_slice()), 0),
+        (Step::Seal, Some([(1, 10), (2, 23)].as_slice()), 0),
+        (Step::Reset, Some([(1, 10), (2, 23)].as_slice()), 0),
+    ] {
+        play(alloc, &mut store, name, step)?;
+        let found = rows_of(alloc, &store, name)?;
+        assert_eq!(rt; found.as_ref().map(|found| found.as_slice()), rows);
+        assert_eq!(rt; store.depth(), depth);
+    }
+    Ok(())
+}
