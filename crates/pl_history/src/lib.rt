@@ -8,3 +8,6 @@ mod cells;
 mod pairs;
 
 pub use pairs::Pairs;
+
+#[cfg(test)]
+mod tests;

@@ -1,5 +1,5 @@
 -- The place of a name, and the table that is there.
-use Rattle.std.proofs.Common.{◌≡◌, ◌≤◌, ◌<◌, ◌+◌, ◌&&◌, ℕ, zero, suc, List, [], ◌∷◌, ◌++◌, length, cond, not, nat_lt, nat_eq, Bool, true, false, Option, Some, None, refl, sym, ◌∙◌, ap, arith}
+use Rattle.std.proofs.Common.{Result, Err, ◌≡◌, ◌≤◌, ◌<◌, ◌+◌, ◌&&◌, ℕ, zero, suc, List, [], ◌∷◌, ◌++◌, length, cond, not, nat_lt, nat_eq, Bool, true, false, Option, Some, None, refl, sym, ◌∙◌, ap, arith}
 use Rattle.std.specs.Prelude.{IsSome, option_map, slice_get, slice_set}
 use Rattle.std.specs.List.{position, position_or_len, prefix_len}
 use Rattle.std.specs.Cmp.Lexicographic.{pointwise}
@@ -10,6 +10,8 @@ use Rattle.pl_history.specs.HistoryLaws.{history_changed, history_back, seen_cha
 use Rattle.pl_tables.specs.declared.tables.Place.{Place}
 use Rattle.pl_tables.specs.declared.tables.Step.{Step}
 use Rattle.pl_tables.specs.declared.tables.Step.TheVariants.{Created}
+use Rattle.pl_tables.specs.declared.table.TableFail.{TableFail}
+use Rattle.pl_tables.specs.declared.table.TableFail.TheVariants as fail
 use Rattle.pl_tables.specs.Rows.{Content, is_full, row_at}
 use Rattle.pl_tables.specs.Named.{Named, named, content_named, is_full_named, next_named, on_table, without_table, row_named, rows_of}
 use Rattle.pl_tables.specs.Places.{is_full_in, next_in, kept, there, is_at, with_place, undone_place, row_in, gone, undo_step}
@@ -187,6 +189,24 @@ pub there_settled : (ps : List Place) (at : ℕ) (change : Place → Place) → 
 there_settled [] at change same = refl
 there_settled (p ∷ ps) zero change same = ap (λ (k : List Named → List Named). k (there ps)) (same p refl)
 there_settled (p ∷ ps) (suc at) change same = ap (kept p.is_there (named p.name p.table.current)) (there_settled ps at change same)
+
+-- what a place holds that isn't there doesn't count
+pub there_cleared : (ps : List Place) (at : ℕ) (p q : Place) → slice_get ps at ≡ Some p → p.is_there ≡ false → q.is_there ≡ false → there (slice_set ps at q) ≡ there ps
+there_cleared [] at p q has was is = refl
+there_cleared (r ∷ ps) zero p q has was is =
+    let same : r ≡ p = (let o : Some r ≡ Some p = has in cc) in
+    let e : r.is_there ≡ false = ap (λ (s : Place). s.is_there) same ∙ was in
+    ap (λ (b : Bool). kept b (named q.name q.table.current) (there ps)) is ∙ sym (ap (λ (b : Bool). kept b (named r.name r.table.current) (there ps)) e)
+there_cleared (r ∷ ps) (suc at) p q has was is = ap (kept r.is_there (named r.name r.table.current)) (there_cleared ps at p q has was is)
+
+pub same_place : (ps : List Place) (at : ℕ) (p q : Place) → slice_get ps at ≡ Some p → slice_get ps at ≡ Some q → p ≡ q
+same_place ps at p q e f = let o : Some p ≡ Some q = sym e ∙ f in cc
+
+pub not_full : (let r : Result ℕ TableFail = Err fail.Memory in r ≡ Err fail.Full) → ⊥
+not_full e = absurd cc
+
+pub full_absent : (name : List ℕ) (ps : List Place) → position (is_at name) ps ≡ None → is_full_named name (there ps) ≡ None
+full_absent name ps is = ap (option_map is_full) (not_there name ps is)
 
 -- as many states as changes
 pub length_past : (ss : List Step) (ps : List Place) → length (seen_as there (history undo_step ss ps)).past ≡ length ss

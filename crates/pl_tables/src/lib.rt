@@ -8,3 +8,6 @@ mod tables;
 pub use slots::Slot;
 pub use table::{Table, TableFail};
 pub use tables::Tables;
+
+#[cfg(test)]
+mod tests;

@@ -1,6 +1,6 @@
 //! Tables by their names.
 
-ghost use Rattle.std.specs.Prelude.{◌≡◌, ◌<◌, ◌-◌, ◌∷◌, ◌++◌, [], None, IsSome, true, false};
+ghost use Rattle.std.specs.Prelude.{◌≡◌, ◌<◌, ◌-◌, ◌∷◌, ◌++◌, ◌↔◌, [], None, IsSome, true, false};
 ghost use Rattle.std.specs.Prelude.{length, option_map, slice_get, take, Err, IfOk, OnOk, OnErr, Some};
 ghost use Rattle.std.specs.List.{position};
 ghost use Rattle.std.specs.Option.{option_copied};
@@ -122,28 +122,33 @@ impl Tables {
         Ok(())
     }
 
-    /// Adds the row to the table of this name, and answers its id.
+    /// Adds the row to the table of this name, and answers its id. Full where the table is full.
     pub fn insert(&mut self, name: Name, row: Cells) -> Result<u64, TableFail>
         requires there { IsSome (content_named name self.old.current) }
-        ensures full { result ≡ Err TableFail.Full
-            → is_full_named name self.old.current ≡ Some true }
+        ensures full { (result ≡ Err TableFail.Full)
+            ↔ (is_full_named name self.old.current ≡ Some true) }
         ensures id { IfOk result (λ id. next_named name self.old.current ≡ Some id) }
         ensures ok { OnOk result (self.new
             ≡ changed (on_table name (inserted row) self.old.current) self.old) }
         ensures err { OnErr result (self.new ≡ self.old) }
     {
-        match self.steps.reserve(1) {
-            Err(_) => Err(TableFail::Memory),
-            Ok(()) => match place_of(self.places.as_slice(), &name) {
-                None => Err(TableFail::Memory),
-                Some(at) => match insert_at(&mut self.places, at, row) {
-                    Err(fail) => Err(fail),
-                    Ok(id) => {
-                        self.steps.push_reserved(Step::Changed(at));
-                        Ok(id)
-                    }
-                },
-            },
+        match place_of(self.places.as_slice(), &name) {
+            None => Err(TableFail::Memory),
+            Some(at) => {
+                if is_full_at(self.places.as_slice(), at) {
+                    return Err(TableFail::Full);
+                }
+                match self.steps.reserve(1) {
+                    Err(_) => Err(TableFail::Memory),
+                    Ok(()) => match insert_at(&mut self.places, at, row) {
+                        Err(fail) => Err(fail),
+                        Ok(id) => {
+                            self.steps.push_reserved(Step::Changed(at));
+                            Ok(id)
+                        }
+                    },
+                }
+            }
         }
     }
 
@@ -203,19 +208,30 @@ impl Tables {
     pub fn forget(&mut self)
         ensures settled { self.new ≡ settled self.old }
     {
-        settle(&mut self.places, &mut self.steps);
+        settle(&mut self.places, &mut self.steps, self.alloc);
     }
 }
 
-// Forgets how the changes are undone.
-fn settle(places: &mut Vec<Place>, steps: &mut Vec<Step>)
+// Forgets how the changes are undone, and what dropped tables held.
+fn settle(places: &mut Vec<Place>, steps: &mut Vec<Step>, alloc: Global)
     ensures places { there places.new.items ≡ there places.old.items }
     ensures steps { steps.new.items ≡ [] }
 {
     while let Some(step) = steps.pop() {
-        if let Step::Changed(at) = step {
-            settle_at(places, at);
+        match step {
+            Step::Created => {}
+            Step::Dropped(at) => clear_at(places, at, alloc),
+            Step::Changed(at) => settle_at(places, at),
         }
+    }
+}
+
+// Frees what the table at this place held, where it is dropped.
+fn clear_at(places: &mut Vec<Place>, at: usize, alloc: Global)
+    ensures { there places.new.items ≡ there places.old.items }
+{
+    if at < places.len() && !places[at].is_there {
+        places[at].table = Table::new(alloc);
     }
 }
 
@@ -235,10 +251,17 @@ fn place_of(places: &[Place], name: &Name) -> Option<usize>
         .position(|place| place.is_there && place.name == *name)
 }
 
+fn is_full_at(places: &[Place], at: usize) -> bool
+    requires { at < length places.now }
+    ensures { is_full_in (slice_get places.now at) ≡ Some result }
+{
+    places[at].table.is_full()
+}
+
 fn insert_at(places: &mut Vec<Place>, at: usize, row: Cells) -> Result<u64, TableFail>
     requires { at < length places.old.items }
-    ensures full { result ≡ Err TableFail.Full
-        → is_full_in (slice_get places.old.items at) ≡ Some true }
+    ensures full { (result ≡ Err TableFail.Full)
+        ↔ (is_full_in (slice_get places.old.items at) ≡ Some true) }
     ensures id { IfOk result (λ id. next_in (slice_get places.old.items at) ≡ Some id) }
     ensures ok { OnOk result (places.new.items ≡ with_place places.old.items at (with_insert row)) }
     ensures err { OnErr result (places.new.items ≡ places.old.items) }

@@ -1,6 +1,6 @@
 //! The store and its marks.
 
-ghost use Rattle.std.specs.Prelude.{◌≡◌, ◌<◌, ◌≤◌, ◌+◌, ◌∷◌, ◌++◌, [], ℕ, Some, None, IsSome};
+ghost use Rattle.std.specs.Prelude.{◌≡◌, ◌<◌, ◌≤◌, ◌+◌, ◌∷◌, ◌++◌, ◌↔◌, [], ℕ, Some, None, IsSome};
 ghost use Rattle.std.specs.Prelude.{length, slice_get, take, true, Err, IfOk, OnOk, OnErr};
 ghost use Rattle.pl_tables.specs.Named.{content_named, is_full_named, named, next_named, on_table};
 ghost use Rattle.pl_tables.specs.Named.{row_named, without_table};
@@ -107,8 +107,8 @@ impl Store {
     /// Adds the row to the table of this name, and answers its id.
     pub fn insert(&mut self, name: Name, row: Cells) -> Result<u64, TableFail>
         requires there { IsSome (content_named name self.old.tables) }
-        ensures full { result ≡ Err TableFail.Full
-            → is_full_named name self.old.tables ≡ Some true }
+        ensures full { (result ≡ Err TableFail.Full)
+            ↔ (is_full_named name self.old.tables ≡ Some true) }
         ensures id { IfOk result (λ id. next_named name self.old.tables ≡ Some id) }
         ensures ok { OnOk result (self.new.tables ≡ on_table name (inserted row) self.old.tables) }
         ensures err { OnErr result (self.new.tables ≡ self.old.tables) }

@@ -1,7 +1,9 @@
-//! A sequence of changes and marks.
+//! Sequences of changes and marks.
 
 ghost use Rattle.std.specs.Prelude.{◌≡◌, IsSome, None, true, false};
 ghost use Rattle.pl_tables.specs.Named.{content_named, row_named};
+
+mod random;
 
 use crate::{Mark, Store};
 use pl_base::{Cells, List, Name, Value};

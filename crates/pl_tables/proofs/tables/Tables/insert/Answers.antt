@@ -1,4 +1,5 @@
-use Rattle.std.proofs.Common.{◌≡◌, ◌++◌, ◌∷◌, [], ◌∙◌, Some, List, sym, ap}
+use Rattle.std.proofs.Common.{◌≡◌, ◌++◌, ◌∷◌, [], ◌∙◌, Bool, true, false, Option, None, Some, List, refl, sym, ap}
+use Rattle.std.specs.Prelude.{slice_get}
 use Rattle.std.specs.List.{position}
 use Rattle.pl_history.specs.History.{History, changed, history, seen_as}
 use Rattle.pl_tables.specs.declared.tables.Place.{Place}
@@ -6,8 +7,8 @@ use Rattle.pl_tables.specs.declared.tables.Step.{Step}
 use Rattle.pl_tables.specs.declared.tables.Step.TheVariants.{Changed}
 use Rattle.pl_tables.specs.Rows.{inserted}
 use Rattle.pl_tables.specs.Named.{Named, is_full_named, on_table, next_named}
-use Rattle.pl_tables.specs.Places.{there, is_at, undo_step}
-use Rattle.pl_tables.proofs.Finding.{gone_on, there_changed, undone_change, some_place, within, full_found, next_found}
+use Rattle.pl_tables.specs.Places.{there, is_at, is_full_in, undo_step}
+use Rattle.pl_tables.proofs.Finding.{gone_on, there_changed, undone_change, some_place, within, full_absent, full_found, next_found, not_full}
 use Rattle.pl_tables.proofs.tables.Tables.insert.Goals as goal
 
 pub returns-in-Ok-insert_at-clause-ok : goal.returns-in-Ok-insert_at-clause-ok
@@ -29,10 +30,47 @@ returns-in-Ok-insert_at-clause-id c =
     let q = some_place ps at (within c.args.name ps at p) in
     sym (ap (λ (h : History (List Named)). next_named c.args.name h.current) c.self.view_is) ∙ (next_found c.args.name ps at q.0 p q.1 ∙ c.in-Ok-insert_at.ensures.id)
 
-pub returns-in-Err-insert_at-clause-full : goal.returns-in-Err-insert_at-clause-full
-returns-in-Err-insert_at-clause-full c = λ e.
+pub returns-in-Ok-insert_at-clause-full : goal.returns-in-Ok-insert_at-clause-full
+returns-in-Ok-insert_at-clause-full c =
     let ps = c.self.inside.places.items in
     let at = c.in-Some.at in
     let p : position (is_at c.args.name) ps ≡ Some at = sym (c.place_of.ensures ∙ ap (λ (l : List Place). position (is_at c.args.name) l) c.as_slice.ensures.value) ∙ c.in-Some.is in
     let q = some_place ps at (within c.args.name ps at p) in
-    sym (ap (λ (h : History (List Named)). is_full_named c.args.name h.current) c.self.view_is) ∙ (full_found c.args.name ps at q.0 p q.1 ∙ c.in-Err-insert_at.ensures.full e)
+    let found : is_full_named c.args.name c.args.self.now.current ≡ is_full_in (slice_get ps at) = sym (ap (λ (h : History (List Named)). is_full_named c.args.name h.current) c.self.view_is) ∙ full_found c.args.name ps at q.0 p q.1 in
+    (λ e. found ∙ c.insert_at.ensures.full.0 (c.in-Ok-insert_at.is ∙ e), λ t. sym c.in-Ok-insert_at.is ∙ c.insert_at.ensures.full.1 (sym found ∙ t))
+
+pub returns-in-Err-insert_at-clause-full : goal.returns-in-Err-insert_at-clause-full
+returns-in-Err-insert_at-clause-full c =
+    let ps = c.self.inside.places.items in
+    let at = c.in-Some.at in
+    let p : position (is_at c.args.name) ps ≡ Some at = sym (c.place_of.ensures ∙ ap (λ (l : List Place). position (is_at c.args.name) l) c.as_slice.ensures.value) ∙ c.in-Some.is in
+    let q = some_place ps at (within c.args.name ps at p) in
+    let found : is_full_named c.args.name c.args.self.now.current ≡ is_full_in (slice_get ps at) = sym (ap (λ (h : History (List Named)). is_full_named c.args.name h.current) c.self.view_is) ∙ full_found c.args.name ps at q.0 p q.1 in
+    (λ e. found ∙ c.insert_at.ensures.full.0 (c.in-Err-insert_at.is ∙ e), λ t. sym c.in-Err-insert_at.is ∙ c.insert_at.ensures.full.1 (sym found ∙ t))
+
+pub returns-then-is_full_at-clause-full : goal.returns-then-is_full_at-clause-full
+returns-then-is_full_at-clause-full c =
+    let ps = c.self.inside.places.items in
+    let at = c.in-Some.at in
+    let p : position (is_at c.args.name) ps ≡ Some at = sym (c.place_of.ensures ∙ ap (λ (l : List Place). position (is_at c.args.name) l) c.as_slice.ensures.value) ∙ c.in-Some.is in
+    let q = some_place ps at (within c.args.name ps at p) in
+    let found : is_full_named c.args.name c.args.self.now.current ≡ is_full_in (slice_get ps at) = sym (ap (λ (h : History (List Named)). is_full_named c.args.name h.current) c.self.view_is) ∙ full_found c.args.name ps at q.0 p q.1 in
+    let full : is_full_named c.args.name c.args.self.now.current ≡ Some c.is_full_at.result = found ∙ (sym (ap (λ (l : List Place). is_full_in (slice_get l at)) c.as_slice-in-Some.ensures.value) ∙ c.is_full_at.ensures) in
+    (λ e. full ∙ ap (λ (b : Bool). let o : Option Bool = Some b in o) c.if-is_full_at.true, λ t. refl)
+
+pub returns-in-Err-clause-full : goal.returns-in-Err-clause-full
+returns-in-Err-clause-full c =
+    let ps = c.self.inside.places.items in
+    let at = c.in-Some.at in
+    let p : position (is_at c.args.name) ps ≡ Some at = sym (c.place_of.ensures ∙ ap (λ (l : List Place). position (is_at c.args.name) l) c.as_slice.ensures.value) ∙ c.in-Some.is in
+    let q = some_place ps at (within c.args.name ps at p) in
+    let found : is_full_named c.args.name c.args.self.now.current ≡ is_full_in (slice_get ps at) = sym (ap (λ (h : History (List Named)). is_full_named c.args.name h.current) c.self.view_is) ∙ full_found c.args.name ps at q.0 p q.1 in
+    let full : is_full_named c.args.name c.args.self.now.current ≡ Some c.is_full_at.result = found ∙ (sym (ap (λ (l : List Place). is_full_in (slice_get l at)) c.as_slice-in-Some.ensures.value) ∙ c.is_full_at.ensures) in
+    (λ e. absurd (not_full e), λ t. absurd (let o : Some false ≡ Some true = sym (full ∙ ap (λ (b : Bool). let o : Option Bool = Some b in o) c.if-is_full_at.false) ∙ t in cc))
+
+pub returns-in-None-clause-full : goal.returns-in-None-clause-full
+returns-in-None-clause-full c =
+    let ps = c.self.inside.places.items in
+    let p : position (is_at c.args.name) ps ≡ None = sym (c.place_of.ensures ∙ ap (λ (l : List Place). position (is_at c.args.name) l) c.as_slice.ensures.value) ∙ c.in-None.is in
+    let none : is_full_named c.args.name c.args.self.now.current ≡ None = sym (ap (λ (h : History (List Named)). is_full_named c.args.name h.current) c.self.view_is) ∙ full_absent c.args.name ps p in
+    (λ e. absurd (not_full e), λ t. absurd (let o : (let n : Option Bool = None in n ≡ Some true) = sym none ∙ t in cc))

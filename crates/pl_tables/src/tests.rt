@@ -1,0 +1,124 @@
+//! Each call once.
+
+ghost use Rattle.std.specs.Prelude.{◌≡◌, IsSome, None, true, false};
+ghost use Rattle.pl_tables.specs.Named.{content_named, row_named};
+
+use crate::{Table, Tables};
+use pl_base::{Cells, List, Name, Value};
+use std::alloc::{AllocError, Global};
+use std::test::Fail;
+
+fn row(alloc: Global, number: i32) -> Result<Cells, AllocError> {
+    let mut row = List::new(alloc);
+    row.push(Value::Int(number))?;
+    Ok(row)
+}
+
+// The number in the row of this id.
+fn number_of(table: &Table, id: u64) -> Option<i32> {
+    match table.row(id)?.get(0) {
+        Some(Value::Int(number)) => Some(*number),
+        _ => None,
+    }
+}
+
+fn filled(alloc: Global) -> Result<Table, Fail> {
+    let mut table = Table::new(alloc);
+    for number in [10, 20, 30] {
+        if table.insert(row(alloc, number)?).is_err() {
+            return Err(Fail::new("no row is added"));
+        }
+    }
+    Ok(table)
+}
+
+#[test]
+fn rows_are_replaced_and_removed(rt: HostRuntime) -> Result<(), Fail> {
+    let alloc = rt.alloc();
+    let mut table = filled(alloc)?;
+    assert!(rt; !table.is_full());
+    assert!(rt; table.row(2).is_some());
+    table.replace(2, row(alloc, 21)?)?;
+    assert_eq!(rt; number_of(&table, 2), Some(21));
+    assert!(rt; table.row(1).is_some());
+    table.remove(1)?;
+    assert_eq!(rt; number_of(&table, 1), None);
+    assert_eq!(rt; table.count(), 2);
+    assert_eq!(rt;
+        table
+            .slots()
+            .iter()
+            .filter(|slot| slot.row.is_some())
+            .count(),
+        2
+    );
+    table.undo();
+    table.undo();
+    assert_eq!(rt; number_of(&table, 1), Some(10));
+    assert_eq!(rt; number_of(&table, 2), Some(20));
+    table.forget();
+    table.undo();
+    assert_eq!(rt; table.count(), 3);
+    assert_eq!(rt; table.insert(row(alloc, 40)?).unwrap_or(0), 4);
+    Ok(())
+}
+
+fn has_table(tables: &Tables, name: Name) -> bool
+    ensures there { result ≡ true → IsSome (content_named name tables.now.current) }
+    ensures absent { result ≡ false → content_named name tables.now.current ≡ None }
+{
+    tables.table(name).is_some()
+}
+
+fn has_row(tables: &Tables, name: Name, id: u64) -> bool
+    ensures there { result ≡ true → IsSome (row_named name id tables.now.current) }
+{
+    match tables.table(name) {
+        Some(table) => table.row(id).is_some(),
+        None => false,
+    }
+}
+
+// Two rows in a new table. Says whether they are there.
+fn fill(alloc: Global, tables: &mut Tables, name: Name) -> Result<bool, Fail> {
+    if has_table(tables, name) {
+        return Ok(false);
+    }
+    tables.create(name)?;
+    for number in [10, 20] {
+        if !has_table(tables, name) || tables.insert(name, row(alloc, number)?).is_err() {
+            return Ok(false);
+        }
+    }
+    Ok(true)
+}
+
+#[test]
+fn tables_change_by_their_names(rt: HostRuntime) -> Result<(), Fail> {
+    let alloc = rt.alloc();
+    let Some(name) = Name::of("t") else {
+        return Err(Fail::new("no name"));
+    };
+    let mut tables = Tables::new(alloc);
+    assert!(rt; fill(alloc, &mut tables, name)?);
+    assert!(rt; has_row(&tables, name, 1));
+    tables.replace(name, 1, row(alloc, 11)?)?;
+    assert!(rt; has_row(&tables, name, 2));
+    tables.remove(name, 2)?;
+    assert_eq!(rt; tables.changes(), 5);
+    assert_eq!(rt;
+        tables.table(name).and_then(|table| number_of(table, 1)),
+        Some(11)
+    );
+    assert!(rt; !has_row(&tables, name, 2));
+    tables.undo();
+    assert!(rt; has_row(&tables, name, 2));
+    assert!(rt; has_table(&tables, name));
+    tables.drop_table(name)?;
+    assert!(rt; !has_table(&tables, name));
+    tables.undo();
+    assert!(rt; has_row(&tables, name, 2));
+    tables.forget();
+    assert_eq!(rt; tables.changes(), 0);
+    Ok(())
+}
