@@ -9,3 +9,6 @@ pub use catalog::{Catalog, CatalogFail};
 pub use object::{
     Column, Events, Heading, Object, Routine, Rule, RuleKind, TableDef, TriggerDef, Which,
 };
+
+#[cfg(test)]
+mod tests;
