@@ -1,25 +1,8 @@
 //! How the pieces of a script are answered: refusals in their order, and the forms that run.
 
-use pl_cli::run;
-use pl_disk::{MemoryHost, MemorySource};
+use crate::report::Report;
+use crate::runs::{PLAIN, answer};
 use std::alloc::Global;
-use std::test::Fail;
-
-fn run_with(
-    alloc: Global,
-    host: &mut MemoryHost,
-    script: &str,
-    words: &[&str],
-) -> Result<u8, Fail> {
-    let mut line = Vec::new(alloc);
-    for word in words {
-        line.push(String::from_str(alloc, word)?)?;
-    }
-    let mut source = MemorySource::new(script.as_bytes().to_vec(alloc)?, Vec::new(alloc));
-    Ok(run(alloc, &line, host, &mut source).status)
-}
-
-const PLAIN: [&str; 3] = ["plpg", "shop.store", "first.sql"];
 
 const STOPPING: [&str; 4] = ["plpg", "shop.store", "first.sql", "--on-error-stop"];
 
@@ -39,105 +22,104 @@ const MADE: &str = "CREATE TABLE\nINSERT 0 1\n";
 
 const NAME_OF_64: &str = "SELECT aaaaaaaaaaaaaaaaaaaaaaaaaaaaaaaaaaaaaaaaaaaaaaaaaaaaaaaaaaaaaaaa;";
 
-// The script, 101 opening brackets, and what the rest is.
-fn deep(alloc: Global, before: &str, after: &str) -> Result<String, Fail> {
-    let mut script = String::from_str(alloc, before)?;
+/// Scripts that end with 0, and what they print.
+const PIECES: [(&str, &str); 29] = [
+    // The first bad lexeme comes before all else.
+    (NAME_OF_64, TOO_LONG),
+    ("SELECT \"\";", SYNTAX),
+    ("SELECT 9223372036854775809", TOO_GREAT),
+    ("LOCK 1.5", LEFT_OUT),
+    ("WITH \"\"", SYNTAX),
+    ("/* /* */ SELECT 1;", SYNTAX),
+    ("DO $a$ BEGIN", SYNTAX),
+    // Commands that are left out.
+    ("WITH q AS (SELECT 1) SELECT 1;", LEFT_OUT),
+    ("CREATE INDEX 1 2 3", LEFT_OUT),
+    // No command is spelled so.
+    ("SELECT 1 2", SYNTAX),
+    ("CREATE TABLE table (c integer);;", SYNTAX),
+    // A command that doesn't run.
+    ("SELECT ';' -- ;\n, 1;", LEFT_OUT),
+    ("CREATE TABLE IF NOT EXISTS n (c integer)", LEFT_OUT),
+    ("CREATE TABLE n (c integer NOT NULL)", LEFT_OUT),
+    ("CREATE TABLE n (c bigint)", LEFT_OUT),
+    ("INSERT INTO n (c) VALUES (1)", LEFT_OUT),
+    ("INSERT INTO n AS m VALUES (1)", LEFT_OUT),
+    ("INSERT INTO n VALUES (1) RETURNING c", LEFT_OUT),
+    ("INSERT INTO n VALUES (1), (2)", LEFT_OUT),
+    ("INSERT INTO n VALUES (1 + 1)", LEFT_OUT),
+    ("INSERT INTO n VALUES (2147483648)", LEFT_OUT),
+    ("INSERT INTO n VALUES (-2147483649)", LEFT_OUT),
+    ("INSERT INTO n VALUES (2147483647)", UNDEFINED),
+    ("INSERT INTO n VALUES (-2147483648)", UNDEFINED),
+    // A byte order mark in front is no part of the script, and one behind it is.
+    ("\u{feff}", ""),
+    (
+        "\u{feff}CREATE TABLE n (c integer); INSERT INTO n VALUES (1)",
+        MADE,
+    ),
+    ("\u{feff}\u{feff}SELECT 1;", SYNTAX),
+    // Nothing, and the two forms with other names.
+    (" -- a note\n; /* ; */ ;", ""),
+    (
+        "Create /* a */ Table \"Ä;\" (größe INT4) ; insert into \"Ä;\" values (-0)",
+        MADE,
+    ),
+];
+
+#[test]
+fn pieces_are_read_and_refused(rt: HostRuntime) {
+    let alloc = rt.alloc();
+    for (script, printed) in PIECES {
+        let told = answer(alloc, &PLAIN, script.as_bytes(), 0);
+        assert_eq!(rt; told.text(), printed, "{script}");
+    }
+}
+
+/// What stands before 101 opening brackets and behind them, and what is printed.
+const DEPTHS: [(&str, &str, &str); 4] = [
+    ("SELECT ", "1", DEEP),
+    ("SELECT ", " 1 2", DEEP),
+    ("LOCK ", "", LEFT_OUT),
+    ("SELECT ", "\"\"", SYNTAX),
+];
+
+fn deep(alloc: Global, before: &str, behind: &str) -> Report {
+    let mut script = Report::new(alloc);
+    script.push(before.as_bytes());
     for _ in 0..101 {
-        script.push_str("(")?;
+        script.push(b"(");
     }
-    script.push_str(after)?;
-    Ok(script)
+    script.push(behind.as_bytes());
+    script
 }
 
 #[test]
-fn pieces_are_read_and_refused(rt: HostRuntime) -> Result<(), Fail> {
+fn depth_is_judged_before_the_rest(rt: HostRuntime) {
     let alloc = rt.alloc();
-    for (script, printed) in [
-        // The first bad lexeme comes before all else.
-        (NAME_OF_64, TOO_LONG),
-        ("SELECT \"\";", SYNTAX),
-        ("SELECT 9223372036854775809", TOO_GREAT),
-        ("LOCK 1.5", LEFT_OUT),
-        ("WITH \"\"", SYNTAX),
-        ("/* /* */ SELECT 1;", SYNTAX),
-        ("DO $a$ BEGIN", SYNTAX),
-        // Commands that are left out.
-        ("WITH q AS (SELECT 1) SELECT 1;", LEFT_OUT),
-        ("CREATE INDEX 1 2 3", LEFT_OUT),
-        // No command is spelled so.
-        ("SELECT 1 2", SYNTAX),
-        ("CREATE TABLE table (c integer);;", SYNTAX),
-        // A command that doesn't run.
-        ("SELECT ';' -- ;\n, 1;", LEFT_OUT),
-        ("CREATE TABLE IF NOT EXISTS n (c integer)", LEFT_OUT),
-        ("CREATE TABLE n (c integer NOT NULL)", LEFT_OUT),
-        ("CREATE TABLE n (c bigint)", LEFT_OUT),
-        ("INSERT INTO n (c) VALUES (1)", LEFT_OUT),
-        ("INSERT INTO n AS m VALUES (1)", LEFT_OUT),
-        ("INSERT INTO n VALUES (1) RETURNING c", LEFT_OUT),
-        ("INSERT INTO n VALUES (1), (2)", LEFT_OUT),
-        ("INSERT INTO n VALUES (1 + 1)", LEFT_OUT),
-        ("INSERT INTO n VALUES (2147483648)", LEFT_OUT),
-        ("INSERT INTO n VALUES (-2147483649)", LEFT_OUT),
-        ("INSERT INTO n VALUES (2147483647)", UNDEFINED),
-        ("INSERT INTO n VALUES (-2147483648)", UNDEFINED),
-        // A byte order mark in front is no part of the script, and one behind it is.
-        ("\u{feff}", ""),
-        (
-            "\u{feff}CREATE TABLE n (c integer); INSERT INTO n VALUES (1)",
-            MADE,
-        ),
-        ("\u{feff}\u{feff}SELECT 1;", SYNTAX),
-        // Nothing, and the two forms with other names.
-        (" -- a note\n; /* ; */ ;", ""),
-        (
-            "Create /* a */ Table \"Ä;\" (größe INT4) ; insert into \"Ä;\" values (-0)",
-            MADE,
-        ),
-    ] {
-        let mut host = MemoryHost::new(alloc, Vec::new(alloc), Vec::new(alloc), Vec::new(alloc))?;
-        assert_eq!(rt; run_with(alloc, &mut host, script, &PLAIN)?, 0, "{script}");
-        assert_eq!(rt; host.printed(), printed.as_bytes(), "{script}");
+    for (before, behind, printed) in DEPTHS {
+        let script = deep(alloc, before, behind);
+        let told = answer(alloc, &PLAIN, script.text().as_bytes(), 0);
+        assert_eq!(rt; told.text(), printed, "{before}..{behind}");
     }
-    Ok(())
 }
 
-#[test]
-fn depth_is_judged_before_the_rest(rt: HostRuntime) -> Result<(), Fail> {
-    let alloc = rt.alloc();
-    for (before, after, printed) in [
-        ("SELECT ", "1", DEEP),
-        ("SELECT ", " 1 2", DEEP),
-        ("LOCK ", "", LEFT_OUT),
-        ("SELECT ", "\"\"", SYNTAX),
-    ] {
-        let script = deep(alloc, before, after)?;
-        let mut host = MemoryHost::new(alloc, Vec::new(alloc), Vec::new(alloc), Vec::new(alloc))?;
-        assert_eq!(rt; run_with(alloc, &mut host, &script, &PLAIN)?, 0, "{before}");
-        assert_eq!(rt; host.printed(), printed.as_bytes(), "{before}");
-    }
-    Ok(())
-}
+/// Scripts, their status where they stop at an error, and what is printed.
+const STOPS: [(&str, u8, &str); 3] = [
+    ("DO $a$ BEGIN", 3, SYNTAX),
+    ("SELECT 1; CREATE TABLE n (c integer);", 3, LEFT_OUT),
+    (
+        "CREATE TABLE n (c integer); INSERT INTO n VALUES (1); ;",
+        0,
+        MADE,
+    ),
+];
 
 #[test]
-fn a_script_stops_at_its_first_error(rt: HostRuntime) -> Result<(), Fail> {
+fn a_script_stops_at_its_first_error(rt: HostRuntime) {
     let alloc = rt.alloc();
-    for (script, status, printed) in [
-        ("DO $a$ BEGIN", 3, SYNTAX),
-        ("SELECT 1; CREATE TABLE n (c integer);", 3, LEFT_OUT),
-        (
-            "CREATE TABLE n (c integer); INSERT INTO n VALUES (1); ;",
-            0,
-            MADE,
-        ),
-    ] {
-        let mut host = MemoryHost::new(alloc, Vec::new(alloc), Vec::new(alloc), Vec::new(alloc))?;
-        assert_eq!(rt;
-            run_with(alloc, &mut host, script, &STOPPING)?,
-            status,
-            "{script}"
-        );
-        assert_eq!(rt; host.printed(), printed.as_bytes(), "{script}");
+    for (script, status, printed) in STOPS {
+        let told = answer(alloc, &STOPPING, script.as_bytes(), status);
+        assert_eq!(rt; told.text(), printed, "{script}");
     }
-    Ok(())
 }

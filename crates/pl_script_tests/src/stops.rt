@@ -1,97 +1,134 @@
 //! What is left of a store where a call fails, or a crash comes after it.
 
-use crate::runs::{AGAIN, ONE_ROW, ROW, SCRIPT, STORE, TEXT, run_on};
+use crate::report::Report;
+use crate::runs::{
+    AGAIN, ONE_ROW, PLAIN, ROW, Ran, SCRIPT, STORE, TEXT, printed, run_fresh, run_on, run_over,
+};
+use pl_base::Memory;
 use pl_disk::{Area, MemoryHost, Pick};
 use std::alloc::Global;
-use std::test::Fail;
 
-// How many rows a store has, told by what one row more makes of it.
-fn rows_of(alloc: Global, a: Vec<u8>, b: Vec<u8>) -> Result<usize, Fail> {
-    let mut host = MemoryHost::new(alloc, a, b, Vec::new(alloc))?;
-    if run_on(
-        alloc,
-        &mut host,
-        b"INSERT INTO n VALUES (7);",
-        Vec::new(alloc),
-    )? != 0
-    {
-        return Err("the store isn't opened".into());
-    }
-    let more = host.area(Area::A).len().saturating_sub(ONE_ROW);
-    if more % ROW != 0 {
-        return Err("the store ends inside a row".into());
-    }
-    Ok(more / ROW)
-}
+// ---- one call fails
 
-// What the script prints over files that its own run, stopped somewhere, left.
-fn after_a_stop(alloc: Global, a: Vec<u8>, b: Vec<u8>) -> Result<Vec<u8>, Fail> {
-    let mut host = MemoryHost::new(alloc, a, b, Vec::new(alloc))?;
-    if run_on(alloc, &mut host, SCRIPT, Vec::new(alloc))? != 0 {
-        return Err("the store isn't opened".into());
-    }
-    Ok(host.printed().to_vec(alloc)?)
-}
+/// How much of its work the call does first that is to fail, in bytes.
+const PARTS: [(&str, usize); 4] = [
+    ("nothing is done", 0),
+    ("a byte is done", 1),
+    ("five bytes are done", 5),
+    ("all is done", 1000),
+];
 
 // What came of a run of which one call failed.
 #[derive(Drop)]
 struct Stopped {
     status: u8,
     printed: Vec<u8>,
-    // What the script prints over the files that the run left.
-    then: Vec<u8>,
+    a: Vec<u8>,
+    b: Vec<u8>,
 }
 
-// A run whose call k fails, having done a part of it.
-fn run_that_fails(alloc: Global, k: u64, part: usize) -> Result<Stopped, Fail> {
-    let fail = vec![in alloc; k]?;
-    let mut host = MemoryHost::with_part(alloc, Vec::new(alloc), Vec::new(alloc), fail, part)?;
-    let status = run_on(alloc, &mut host, SCRIPT, Vec::new(alloc))?;
+fn stopped_with(
+    alloc: Global,
+    status: u8,
+    printed: &[u8],
+    files: (&[u8], &[u8]),
+) -> Result<Stopped, Memory> {
+    let (a, b) = files;
     Ok(Stopped {
         status,
-        printed: host.printed().to_vec(alloc)?,
-        then: after_a_stop(alloc, host.area(Area::A).to_vec(alloc)?, Vec::new(alloc))?,
+        printed: printed.to_vec(alloc)?,
+        a: a.to_vec(alloc)?,
+        b: b.to_vec(alloc)?,
     })
 }
 
-// More calls than a run makes.
+// A run whose call k fails, having done a part of it.
+fn run_with_fault(alloc: Global, k: u64, part: usize) -> Result<Stopped, Memory> {
+    let fail = vec![in alloc; k]?;
+    let mut host = MemoryHost::with_part(alloc, Vec::new(alloc), Vec::new(alloc), fail, part)?;
+    let status = run_over(alloc, &mut host, &PLAIN, SCRIPT, &[])?;
+    let files = (host.area(Area::A), host.area(Area::B));
+    stopped_with(alloc, status, host.printed(), files)
+}
+
+// What the script prints over files that its own run, stopped somewhere, left.
+fn after_a_stop(alloc: Global, a: &[u8], b: &[u8]) -> Report {
+    printed(alloc, run_on(alloc, a, b, &PLAIN, SCRIPT, &[]), 0)
+}
+
+// Whether what was told is stored, and nothing else was told.
+fn is_harmless(alloc: Global, run: &Stopped) -> bool {
+    let then = after_a_stop(alloc, &run.a, &run.b);
+    if run.status == 0 {
+        return run.printed.as_slice() == TEXT.as_bytes() && then.text() == AGAIN;
+    }
+    let is_made = run.printed.starts_with(b"CREATE TABLE\n");
+    (run.status == 4 || run.status == 6)
+        && TEXT.as_bytes().starts_with(&run.printed)
+        && (then.text() == AGAIN || (!is_made && then.text() == TEXT))
+}
+
+/// More calls than a run makes.
 const CALLS: u64 = 40;
 
-#[test]
-fn one_fault_loses_nothing(rt: HostRuntime) -> Result<(), Fail> {
-    let alloc = rt.alloc();
-    for part in [0, 1, 5, 1000] {
-        let mut first_whole = CALLS;
-        for k in 0..CALLS {
-            let run = run_that_fails(alloc, k, part)?;
-            let printed = run.printed.as_slice();
-            let then = run.then.as_slice();
-            if run.status == 0 {
-                assert_eq!(rt; printed, TEXT, "call {k}, part {part}");
-                assert_eq!(rt; then, AGAIN, "call {k}, part {part}");
-                first_whole = first_whole.min(k);
-            } else {
-                assert!(rt; run.status == 4 || run.status == 6, "call {k}, part {part}");
-                assert!(rt; TEXT.starts_with(printed), "call {k}, part {part}");
-                let made = printed.starts_with(b"CREATE TABLE\n");
-                assert!(rt;
-                    then == AGAIN || (!made && then == TEXT),
-                    "call {k}, part {part}"
-                );
-            }
-        }
-        // The first calls fail, and those past the last one don't.
-        assert!(rt; first_whole > 10 && first_whole < CALLS, "part {part}");
+// The status of a run whose call k fails, unless that does harm.
+fn judged(alloc: Global, k: u64, part: usize) -> Option<u8> {
+    let Ok(run) = run_with_fault(alloc, k, part) else {
+        return None;
+    };
+    if is_harmless(alloc, &run) {
+        Some(run.status)
+    } else {
+        None
     }
-
-    for k in [0, 1] {
-        let mut host = MemoryHost::new(alloc, Vec::new(alloc), Vec::new(alloc), Vec::new(alloc))?;
-        let status = run_on(alloc, &mut host, SCRIPT, vec![in alloc; k]?)?;
-        assert_eq!(rt; status, 5, "call {k} of the source");
-        assert_eq!(rt; host.printed(), b"".as_slice(), "call {k} of the source");
-    }
-    Ok(())
 }
+
+// The number of the first call that a run doesn't make, so that none fails; or of the first one
+// whose failing does harm.
+fn first_whole(alloc: Global, part: usize) -> Result<u64, u64> {
+    let mut first = CALLS;
+    for k in 0..CALLS {
+        match judged(alloc, k, part) {
+            Some(0) => first = first.min(k),
+            Some(_) => {}
+            None => return Err(k),
+        }
+    }
+    Ok(first)
+}
+
+// What is printed where this call of the source fails.
+fn answer_without_script(alloc: Global, k: u64) -> Report {
+    let mut out = Report::new(alloc);
+    let host = MemoryHost::new(alloc, Vec::new(alloc), Vec::new(alloc), Vec::new(alloc));
+    let Ok(mut host) = host else {
+        return Report::lacking(alloc);
+    };
+    match run_over(alloc, &mut host, &PLAIN, SCRIPT, &[k]) {
+        Ok(status) => out.number(u64::from(status)),
+        Err(_) => out.spoil(),
+    }
+    out.push(host.printed());
+    out
+}
+
+#[test]
+fn one_fault_loses_nothing(rt: HostRuntime) {
+    let alloc = rt.alloc();
+    for (how, part) in PARTS {
+        // One call attaches, ten make a store, and each command makes five.
+        assert_eq!(rt; first_whole(alloc, part), Ok(21), "{how}");
+    }
+    for k in [0, 1] {
+        assert_eq!(rt;
+            answer_without_script(alloc, k).text(),
+            "5 ",
+            "call {k} of the source"
+        );
+    }
+}
+
+// ---- a crash comes
 
 const PICKS: [Pick; 5] = [
     Pick::Old,
@@ -101,62 +138,142 @@ const PICKS: [Pick; 5] = [
     Pick::Fill(255),
 ];
 
-#[test]
-fn a_stop_in_a_new_store(rt: HostRuntime) -> Result<(), Fail> {
-    let alloc = rt.alloc();
-    let mut host = MemoryHost::new(alloc, Vec::new(alloc), Vec::new(alloc), Vec::new(alloc))?;
-    assert_eq!(rt; run_on(alloc, &mut host, SCRIPT, Vec::new(alloc))?, 0);
-    for call in 0..host.calls() {
-        for pick in PICKS {
-            let (a, b) = host.image_after(alloc, call, pick)?;
-            let then = after_a_stop(alloc, a, b)?;
-            assert!(rt;
-                then.as_slice() == TEXT || then.as_slice() == AGAIN,
-                "call {call}"
-            );
-        }
+// The files that a crash just after the call leaves.
+fn left(
+    alloc: Global,
+    host: &MemoryHost,
+    call: u64,
+    pick: Pick,
+) -> Result<(Vec<u8>, Vec<u8>), Memory> {
+    if call >= host.calls() {
+        return Err(Memory);
     }
-    Ok(())
+    host.image_after(alloc, call, pick)
 }
 
-// A commit writes its frame, syncs, opens the gate, syncs, and then its reply is said.
-#[test]
-fn a_stop_after_each_call(rt: HostRuntime) -> Result<(), Fail> {
-    let alloc = rt.alloc();
-    let mut host = MemoryHost::new(
-        alloc,
-        STORE.to_vec(alloc)?,
-        Vec::new(alloc),
-        Vec::new(alloc),
-    )?;
-    assert_eq!(rt; run_on(alloc, &mut host, b"", Vec::new(alloc))?, 0);
-    let opened = host.calls();
-    assert!(rt; opened < 100);
-
-    let mut script = Vec::new(alloc);
-    for _ in 0..12 {
-        script.extend_from_slice(b"INSERT INTO n VALUES (2);\n")?;
+// Whether the script does all that it does or what is left of it, after a crash in its own run.
+fn is_opened_after(alloc: Global, host: &MemoryHost, call: u64, pick: Pick) -> bool {
+    match left(alloc, host, call, pick) {
+        Ok((a, b)) => {
+            let then = after_a_stop(alloc, &a, &b);
+            then.text() == TEXT || then.text() == AGAIN
+        }
+        Err(_) => false,
     }
-    let mut host = MemoryHost::new(
-        alloc,
-        STORE.to_vec(alloc)?,
-        Vec::new(alloc),
-        Vec::new(alloc),
-    )?;
-    assert_eq!(rt; run_on(alloc, &mut host, &script, Vec::new(alloc))?, 0);
-    assert_eq!(rt; host.calls(), opened + 60);
-    for commit in 0..12_u8 {
-        for call in 0..5_u8 {
-            for pick in PICKS {
-                let stop = opened + 5 * u64::from(commit) + u64::from(call);
-                assert!(rt; stop < host.calls());
-                let (a, b) = host.image_after(alloc, stop, pick)?;
-                let gate_open = pick == Pick::New || pick == Pick::Fill(1);
-                let more = call > 2 || (call == 2 && gate_open);
-                let rows = 1 + usize::from(commit) + usize::from(more);
-                assert_eq!(rt; rows_of(alloc, a, b)?, rows, "call {stop}");
+}
+
+// The first call of the run after which a crash leaves another store.
+fn first_unopened(alloc: Global, host: &MemoryHost) -> Option<u64> {
+    for call in 0..host.calls() {
+        for pick in PICKS {
+            if !is_opened_after(alloc, host, call, pick) {
+                return Some(call);
             }
         }
     }
-    Ok(())
+    None
+}
+
+// The same of a run over a new store, which makes at least one call.
+fn first_unopened_of_new(alloc: Global) -> Option<u64> {
+    let Ok(ran) = run_fresh(alloc, &PLAIN, SCRIPT) else {
+        return Some(0);
+    };
+    if ran.status != 0 || ran.host.calls() == 0 {
+        return Some(0);
+    }
+    first_unopened(alloc, &ran.host)
+}
+
+#[test]
+fn a_stop_in_a_new_store(rt: HostRuntime) {
+    assert_eq!(rt; first_unopened_of_new(rt.alloc()), None);
+}
+
+// How many rows a store has, told by what one row more makes of it.
+fn rows_of(alloc: Global, a: &[u8], b: &[u8]) -> Option<usize> {
+    let Ok(ran) = run_on(alloc, a, b, &PLAIN, b"INSERT INTO n VALUES (7);", &[]) else {
+        return None;
+    };
+    let more = ran.host.area(Area::A).len().saturating_sub(ONE_ROW);
+    if ran.status != 0 || more % ROW != 0 {
+        return None;
+    }
+    Some(more / ROW)
+}
+
+fn rows_after(alloc: Global, host: &MemoryHost, call: u64, pick: Pick) -> Option<usize> {
+    match left(alloc, host, call, pick) {
+        Ok((a, b)) => rows_of(alloc, &a, &b),
+        Err(_) => None,
+    }
+}
+
+// How many rows there are after so many commits, and so many calls more. A commit writes its frame,
+// syncs, opens the gate, syncs, and then its reply is said.
+fn rows_due(commits: u8, call: u8, pick: Pick) -> usize {
+    let is_gate_open = pick == Pick::New || pick == Pick::Fill(1);
+    let is_one_more = call > 2 || (call == 2 && is_gate_open);
+    1 + usize::from(commits) + usize::from(is_one_more)
+}
+
+const COMMITS: u8 = 12;
+
+fn twelve_rows(alloc: Global) -> Report {
+    let mut script = Report::new(alloc);
+    for _ in 0..COMMITS {
+        script.push(b"INSERT INTO n VALUES (2);\n");
+    }
+    script
+}
+
+// Whether each pick leaves the rows that are due after a call of a commit.
+fn is_right_after(alloc: Global, ran: &Ran, opened: u64, commit: u8, call: u8) -> bool {
+    let stop = opened.saturating_add(5 * u64::from(commit) + u64::from(call));
+    for pick in PICKS {
+        if rows_after(alloc, &ran.host, stop, pick) != Some(rows_due(commit, call, pick)) {
+            return false;
+        }
+    }
+    true
+}
+
+// The first commit and its first call after which that isn't so.
+fn first_wrong(alloc: Global, ran: &Ran, opened: u64) -> Option<(u8, u8)> {
+    for commit in 0..COMMITS {
+        for call in 0..5 {
+            if !is_right_after(alloc, ran, opened, commit, call) {
+                return Some((commit, call));
+            }
+        }
+    }
+    None
+}
+
+// How many calls open the worked store.
+fn calls_to_open(alloc: Global) -> u64 {
+    match run_on(alloc, STORE, b"", &PLAIN, b"", &[]) {
+        Ok(ran) => { if ran.status == 0 { ran.host.calls() } else { 0 } }
+        Err(_) => 0,
+    }
+}
+
+// The same of a run of twelve commits over the worked store.
+fn first_wrong_of_twelve(alloc: Global, opened: u64) -> Option<(u8, u8)> {
+    let script = twelve_rows(alloc);
+    let Ok(ran) = run_on(alloc, STORE, b"", &PLAIN, script.text().as_bytes(), &[]) else {
+        return Some((0, 0));
+    };
+    if ran.status != 0 || ran.host.calls() != opened.saturating_add(60) {
+        return Some((0, 0));
+    }
+    first_wrong(alloc, &ran, opened)
+}
+
+#[test]
+fn a_stop_after_each_call(rt: HostRuntime) {
+    let alloc = rt.alloc();
+    let opened = calls_to_open(alloc);
+    assert!(rt; opened > 0);
+    assert_eq!(rt; first_wrong_of_twelve(alloc, opened), None);
 }

@@ -1,63 +1,99 @@
 //! What a run prints over a store, and what a store becomes.
 
-use crate::runs::{ABSENT, AGAIN, INSERTED, ONE_ROW, SCRIPT, STORE, TEXT, run_on};
-use pl_disk::{Area, MemoryHost};
-use std::test::Fail;
+use crate::report::Report;
+use crate::runs::{ONE_ROW, PLAIN, SCRIPT, STORE, printed, run_fresh, run_on};
+use pl_base::Memory;
+use pl_disk::Area;
+use std::alloc::Global;
 
-#[test]
-fn scripts_print_their_replies(rt: HostRuntime) -> Result<(), Fail> {
-    let alloc = rt.alloc();
-    for (row, store, script, status, printed, length) in [
-        (
-            "no script",
-            b"".as_slice(),
-            b"".as_slice(),
-            0,
-            b"".as_slice(),
-            18,
-        ),
-        ("a new store", b"", SCRIPT, 0, TEXT, 84),
-        ("the worked store", STORE, SCRIPT, 0, AGAIN, 110),
-        (
-            "no table",
-            b"",
-            b"insert into N values ( - 5 )",
-            0,
-            b"ERROR:  42P01: undefined_table\n",
-            18,
-        ),
-        (
-            "a reserved word",
-            b"",
-            b"CREATE TABLE table (c integer);;",
-            0,
-            b"ERROR:  42601: syntax_error\n",
-            18,
-        ),
-        ("a cut value", &STORE[..83], SCRIPT, 7, b"", 83),
-        ("a cut frame", &STORE[..57], SCRIPT, 7, b"", 57),
-        ("a cut header", &STORE[..10], SCRIPT, 7, b"", 10),
-    ] {
-        let mut host = MemoryHost::new(
-            alloc,
-            store.to_vec(alloc)?,
-            Vec::new(alloc),
-            Vec::new(alloc),
-        )?;
-        let ended = run_on(alloc, &mut host, script, Vec::new(alloc))?;
-        assert_eq!(rt; ended, status, "{row}");
-        assert_eq!(rt; host.printed(), printed, "{row}");
-        assert_eq!(rt; host.area(Area::A).len(), length, "{row}");
-        assert_eq!(rt; host.area(Area::B).len(), 0, "{row}");
+// The status of a run over this store, how long both files are then, and what is printed.
+fn outcome(alloc: Global, store: &[u8], script: &[u8]) -> Report {
+    let mut out = Report::new(alloc);
+    match run_on(alloc, store, b"", &PLAIN, script, &[]) {
+        Ok(ran) => {
+            out.number(u64::from(ran.status));
+            out.number(ran.host.area(Area::A).len() as u64);
+            out.number(ran.host.area(Area::B).len() as u64);
+            out.push(ran.host.printed());
+        }
+        Err(_) => out.spoil(),
     }
-    let mut host = MemoryHost::new(alloc, Vec::new(alloc), Vec::new(alloc), Vec::new(alloc))?;
-    assert_eq!(rt; run_on(alloc, &mut host, SCRIPT, Vec::new(alloc))?, 0);
-    assert_eq!(rt; host.area(Area::A), STORE);
-    Ok(())
+    out
 }
 
+/// Scripts over stores, and what comes of them.
+const OUTCOMES: [(&str, &[u8], &[u8], &str); 5] = [
+    ("no script", b"", b"", "0 18 0 "),
+    (
+        "a new store",
+        b"",
+        SCRIPT,
+        "0 84 0 CREATE TABLE\nINSERT 0 1\n",
+    ),
+    (
+        "the worked store",
+        STORE,
+        SCRIPT,
+        "0 110 0 ERROR:  42P07: duplicate_table\nINSERT 0 1\n",
+    ),
+    (
+        "no table",
+        b"",
+        b"insert into N values ( - 5 )",
+        "0 18 0 ERROR:  42P01: undefined_table\n",
+    ),
+    (
+        "a reserved word",
+        b"",
+        b"CREATE TABLE table (c integer);;",
+        "0 18 0 ERROR:  42601: syntax_error\n",
+    ),
+];
+
+/// How long the worked store is where it is cut off, and what comes of a run.
+const CUTS: [(&str, usize, &str); 3] = [
+    ("a cut value", 83, "7 83 0 "),
+    ("a cut frame", 57, "7 57 0 "),
+    ("a cut header", 10, "7 10 0 "),
+];
+
+// The worked store, cut off there.
+fn cut_at(len: usize) -> &'static [u8] {
+    if len < STORE.len() {
+        &STORE[..len]
+    } else {
+        STORE
+    }
+}
+
+// Whether the script leaves the worked store of an empty one.
+fn makes_the_store(alloc: Global) -> bool {
+    match run_fresh(alloc, &PLAIN, SCRIPT) {
+        Ok(ran) => ran.status == 0 && ran.host.area(Area::A) == STORE,
+        Err(_) => false,
+    }
+}
+
+#[test]
+fn scripts_print_their_replies(rt: HostRuntime) {
+    let alloc = rt.alloc();
+    for (row, store, script, want) in OUTCOMES {
+        assert_eq!(rt; outcome(alloc, store, script).text(), want, "{row}");
+    }
+    for (row, len, want) in CUTS {
+        assert_eq!(rt; outcome(alloc, cut_at(len), SCRIPT).text(), want, "{row}");
+    }
+    assert!(rt; makes_the_store(alloc));
+}
+
+const INSERT: &[u8] = b"INSERT INTO n VALUES (2);";
+
+const INSERTED: &str = "INSERT 0 1\n";
+
+const ABSENT: &str = "ERROR:  42P01: undefined_table\n";
+
 // What a run of one INSERT ends with and prints where one byte of the worked store is another.
-fn answer(at: usize, byte: u8) -> (u8, &'static [u8]) {
+fn answer(at: usize, byte: u8) -> (u8, &'static str) {
     match (at, byte) {
         // The gate of the file, and of the first frame: any byte but 1 closes it.
         (0 | 17, _) => (0, ABSENT),
@@ -66,52 +102,71 @@ fn answer(at: usize, byte: u8) -> (u8, &'static [u8]) {
         // The gate of the row's frame.
         (57, _) => (0, INSERTED),
         // The row's id, which is 1 to 2^63 - 1.
-        (69, 255) | (76, 0) => (7, b""),
+        (69, 255) | (76, 0) => (7, ""),
         (69..=76, _) => (0, INSERTED),
         // The row's value.
         (79..=82, _) => (0, INSERTED),
         // The gate behind the last frame: 1 asks for another frame.
         (83, 0 | 2..=255) => (0, INSERTED),
-        _ => (7, b""),
+        _ => (7, ""),
     }
 }
 
+// The worked store with this byte in that place.
+fn changed(alloc: Global, at: usize, byte: u8) -> Result<Vec<u8>, Memory> {
+    let mut store = STORE.to_vec(alloc)?;
+    if at < store.len() {
+        store[at] = byte;
+    }
+    Ok(store)
+}
+
+// Whether the store with the changed byte is answered as it should be.
+fn is_answered(alloc: Global, at: usize, byte: u8) -> bool {
+    let (status, want) = if STORE.get(at) == Some(&byte) {
+        (0, INSERTED)
+    } else {
+        answer(at, byte)
+    };
+    match changed(alloc, at, byte) {
+        Ok(store) => {
+            printed(
+                alloc,
+                run_on(alloc, &store, b"", &PLAIN, INSERT, &[]),
+                status,
+            )
+            .text()
+                == want
+        }
+        Err(_) => false,
+    }
+}
+
+// The status of the INSERT where the store is cut off.
+fn status_of_cut(alloc: Global, len: usize) -> Option<u8> {
+    match run_on(alloc, cut_at(len), b"", &PLAIN, INSERT, &[]) {
+        Ok(ran) => Some(ran.status),
+        Err(_) => None,
+    }
+}
+
+/// The worked store, but the row has the last id that there is.
+const LAST_ID: &[u8] = b"\x01PLPGST01\0\0\0\0\0\0\0\0\
+\x01\0\0\0\0\0\0\0\x1f\x01\0\0\0\x1aCREATE TABLE n (c integer)\
+\x01\0\0\0\0\0\0\0\x11\x02\x01n\x7f\xff\xff\xff\xff\xff\xff\xff\x01\x01\0\0\0\x01\0";
+
 #[test]
-fn a_changed_store_has_its_answer(rt: HostRuntime) -> Result<(), Fail> {
+fn a_changed_store_has_its_answer(rt: HostRuntime) {
     let alloc = rt.alloc();
-    let insert = b"INSERT INTO n VALUES (2);".as_slice();
     for at in 0..ONE_ROW {
         for byte in [0, 1, 2, 255] {
-            let mut store = STORE.to_vec(alloc)?;
-            assert!(rt; store.len() == ONE_ROW);
-            let same = store[at] == byte;
-            store[at] = byte;
-            let mut host = MemoryHost::new(alloc, store, Vec::new(alloc), Vec::new(alloc))?;
-            let status = run_on(alloc, &mut host, insert, Vec::new(alloc))?;
-            let wanted = if same {
-                (0, INSERTED)
-            } else {
-                answer(at, byte)
-            };
-            assert_eq!(rt; status, wanted.0, "byte {at} as {byte}");
-            assert_eq!(rt; host.printed(), wanted.1, "byte {at} as {byte}");
+            assert!(rt; is_answered(alloc, at, byte), "byte {at} as {byte}");
         }
-        let cut = STORE[..at].to_vec(alloc)?;
-        let mut host = MemoryHost::new(alloc, cut, Vec::new(alloc), Vec::new(alloc))?;
-        let status = run_on(alloc, &mut host, insert, Vec::new(alloc))?;
-        assert_eq!(rt; status, if at < 2 { 0 } else { 7 }, "cut to {at}");
+        let wanted = if at < 2 { 0 } else { 7 };
+        assert_eq!(rt; status_of_cut(alloc, at), Some(wanted), "cut to {at}");
     }
-
-    // The row has the last id that there is.
-    let mut store = STORE.to_vec(alloc)?;
-    assert!(rt; store.len() == ONE_ROW);
-    store[69..77].copy_from_slice(b"\x7f\xff\xff\xff\xff\xff\xff\xff");
-    let mut host = MemoryHost::new(alloc, store, Vec::new(alloc), Vec::new(alloc))?;
-    assert_eq!(rt; run_on(alloc, &mut host, insert, Vec::new(alloc))?, 0);
     assert_eq!(rt;
-        host.printed(),
-        b"ERROR:  54000: program_limit_exceeded\n".as_slice()
+        outcome(alloc, LAST_ID, INSERT).text(),
+        "0 84 0 ERROR:  54000: program_limit_exceeded\n"
     );
-    assert_eq!(rt; host.area(Area::A).len(), ONE_ROW);
-    Ok(())
 }
