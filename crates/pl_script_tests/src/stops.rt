@@ -1,5 +1,6 @@
 //! What is left of a store where a call fails, or a crash comes after it.
 
+use crate::fallen::FallenHost;
 use crate::report::Report;
 use crate::runs::{
     AGAIN, ONE_ROW, PLAIN, ROW, Ran, SCRIPT, STORE, TEXT, printed, run_fresh, run_on, run_over,
@@ -10,12 +11,25 @@ use std::alloc::Global;
 
 // ---- one call fails
 
-/// How much of its work the call does first that is to fail, in bytes.
-const PARTS: [(&str, usize); 4] = [
-    ("nothing is done", 0),
-    ("a byte is done", 1),
-    ("five bytes are done", 5),
-    ("all is done", 1000),
+/// How the call fails that is to fail.
+#[derive(Clone, Copy)]
+enum Fault {
+    /// It does so many bytes of its work before.
+    Part(usize),
+    /// A sync loses what it was to settle, which then reads as the pick says.
+    Lost(Pick),
+}
+
+const FAULTS: [(&str, Fault); 9] = [
+    ("nothing is done", Fault::Part(0)),
+    ("a byte is done", Fault::Part(1)),
+    ("five bytes are done", Fault::Part(5)),
+    ("all is done", Fault::Part(1000)),
+    ("a sync leaves the old bytes", Fault::Lost(Pick::Old)),
+    ("a sync leaves the new bytes", Fault::Lost(Pick::New)),
+    ("a sync leaves bytes 0", Fault::Lost(Pick::Fill(0))),
+    ("a sync leaves bytes 1", Fault::Lost(Pick::Fill(1))),
+    ("a sync leaves bytes 255", Fault::Lost(Pick::Fill(255))),
 ];
 
 // What came of a run of which one call failed.
@@ -25,6 +39,7 @@ struct Stopped {
     printed: Vec<u8>,
     a: Vec<u8>,
     b: Vec<u8>,
+    has_fallen: bool,
 }
 
 fn stopped_with(
@@ -32,6 +47,7 @@ fn stopped_with(
     status: u8,
     printed: &[u8],
     files: (&[u8], &[u8]),
+    has_fallen: bool,
 ) -> Result<Stopped, Memory> {
     let (a, b) = files;
     Ok(Stopped {
@@ -39,16 +55,32 @@ fn stopped_with(
         printed: printed.to_vec(alloc)?,
         a: a.to_vec(alloc)?,
         b: b.to_vec(alloc)?,
+        has_fallen,
     })
 }
 
 // A run whose call k fails, having done a part of it.
-fn run_with_fault(alloc: Global, k: u64, part: usize) -> Result<Stopped, Memory> {
+fn run_done_in_part(alloc: Global, k: u64, part: usize) -> Result<Stopped, Memory> {
     let fail = vec![in alloc; k]?;
     let mut host = MemoryHost::with_part(alloc, Vec::new(alloc), Vec::new(alloc), fail, part)?;
     let status = run_over(alloc, &mut host, &PLAIN, SCRIPT, &[])?;
     let files = (host.area(Area::A), host.area(Area::B));
-    stopped_with(alloc, status, host.printed(), files)
+    stopped_with(alloc, status, host.printed(), files, false)
+}
+
+// A run whose call k fails, and falls back where it is a sync.
+fn run_that_falls_back(alloc: Global, k: u64, pick: Pick) -> Result<Stopped, Memory> {
+    let mut host = FallenHost::new(alloc, k, pick)?;
+    let status = run_over(alloc, &mut host, &PLAIN, SCRIPT, &[])?;
+    let files = (host.area(Area::A), host.area(Area::B));
+    stopped_with(alloc, status, host.printed(), files, host.has_fallen())
+}
+
+fn run_with_fault(alloc: Global, k: u64, fault: Fault) -> Result<Stopped, Memory> {
+    match fault {
+        Fault::Part(part) => run_done_in_part(alloc, k, part),
+        Fault::Lost(pick) => run_that_falls_back(alloc, k, pick),
+    }
 }
 
 // What the script prints over files that its own run, stopped somewhere, left.
@@ -72,8 +104,8 @@ fn is_harmless(alloc: Global, run: &Stopped) -> bool {
 const CALLS: u64 = 40;
 
 // The status of a run whose call k fails, unless that does harm.
-fn judged(alloc: Global, k: u64, part: usize) -> Option<u8> {
-    let Ok(run) = run_with_fault(alloc, k, part) else {
+fn judged(alloc: Global, k: u64, fault: Fault) -> Option<u8> {
+    let Ok(run) = run_with_fault(alloc, k, fault) else {
         return None;
     };
     if is_harmless(alloc, &run) {
@@ -85,16 +117,35 @@ fn judged(alloc: Global, k: u64, part: usize) -> Option<u8> {
 
 // The number of the first call that a run doesn't make, so that none fails; or of the first one
 // whose failing does harm.
-fn first_whole(alloc: Global, part: usize) -> Result<u64, u64> {
+fn first_whole(alloc: Global, fault: Fault) -> Result<u64, u64> {
     let mut first = CALLS;
     for k in 0..CALLS {
-        match judged(alloc, k, part) {
+        match judged(alloc, k, fault) {
             Some(0) => first = first.min(k),
             Some(_) => {}
             None => return Err(k),
         }
     }
     Ok(first)
+}
+
+// Whether call k of a run is a sync, which loses something.
+fn has_fallen(alloc: Global, k: u64) -> bool {
+    match run_with_fault(alloc, k, Fault::Lost(Pick::Old)) {
+        Ok(run) => run.has_fallen,
+        Err(_) => false,
+    }
+}
+
+// How many are.
+fn falls(alloc: Global) -> u64 {
+    let mut count = 0;
+    for k in 0..CALLS {
+        if has_fallen(alloc, k) && count < CALLS {
+            count += 1;
+        }
+    }
+    count
 }
 
 // What is printed where this call of the source fails.
@@ -115,10 +166,12 @@ fn answer_without_script(alloc: Global, k: u64) -> Report {
 #[test]
 fn one_fault_loses_nothing(rt: HostRuntime) {
     let alloc = rt.alloc();
-    for (how, part) in PARTS {
+    for (how, fault) in FAULTS {
         // One call attaches, ten make a store, and each command makes five.
-        assert_eq!(rt; first_whole(alloc, part), Ok(21), "{how}");
+        assert_eq!(rt; first_whole(alloc, fault), Ok(21), "{how}");
     }
+    // One sync comes first, three make a store, and each command makes two.
+    assert_eq!(rt; falls(alloc), 8);
     for k in [0, 1] {
         assert_eq!(rt;
             answer_without_script(alloc, k).text(),
