@@ -34,13 +34,11 @@
 #![tactic(auto)]
 
 #[cfg(test)]
-mod bracketed_expressions;
-#[cfg(test)]
-mod bracketed_queries;
-#[cfg(test)]
-mod command_tests;
+mod answers;
 #[cfg(test)]
 mod commands;
+#[cfg(test)]
+mod depths;
 #[cfg(test)]
 mod expressions;
 #[cfg(test)]
@@ -49,12 +47,6 @@ mod left_out_commands;
 mod no_commands;
 #[cfg(test)]
 mod no_definitions;
-#[cfg(test)]
-mod prefix_commands;
-#[cfg(test)]
-mod prefix_expressions;
-#[cfg(test)]
-mod prefix_queries;
 #[cfg(test)]
 mod queries;
 #[cfg(test)]
@@ -69,3 +61,11 @@ mod sources;
 mod tests;
 #[cfg(test)]
 mod words;
+#[cfg(test)]
+mod written_commands;
+#[cfg(test)]
+mod written_expressions;
+#[cfg(test)]
+mod written_queries;
+#[cfg(test)]
+mod written_words;

@@ -1,162 +1,64 @@
-//! What is read of the tables.
+//! What the parsers answer to the texts of the tables.
 
-use crate::bracketed_expressions::write_expr;
-use crate::bracketed_queries::write_query;
+use crate::answers::{
+    Kind, LEFT_OUT, NO_DEFINITION, SYNTAX, answer, script_answer, script_source, source,
+};
+use crate::commands::COMMANDS;
+use crate::depths::DEPTHS;
 use crate::expressions::EXPRESSIONS;
-use crate::prefix_expressions::print_expr;
-use crate::prefix_queries::print_query;
+use crate::left_out_commands::{LEFT_OUT_COMMANDS, LEFT_OUT_DEFINITIONS, LEFT_OUT_WORDS};
+use crate::no_commands::NO_COMMANDS;
+use crate::no_definitions::NO_DEFINITIONS;
 use crate::queries::QUERIES;
 use crate::refusals::{NO_EXPRESSIONS, NO_QUERIES};
+use crate::script_commands::SCRIPTS;
 use crate::scripts::{SCRIPT_EXPRESSIONS, SCRIPT_QUERIES};
-use crate::words::Words;
-use pl_copies::Copied;
-use pl_expr_parse::{parse_expr, parse_query};
-use pl_grammar::ParseFail;
-use pl_lex::lex;
-use pl_tree::{Expr, Query};
-use std::alloc::{AllocError, Global};
-use std::str::from_utf8;
+use crate::sources::{SCRIPT_SOURCES, SOURCE_SCRIPT, SOURCES};
+use crate::words::{Form, Words};
+use pl_lex::cut;
+use std::alloc::Global;
 
-/// Why a text has no tree.
-#[derive(Drop)]
-pub(crate) enum Refusal {
-    /// A lexeme is bad.
-    Lexeme,
-    Parse(ParseFail),
+/// How many brackets may be open, and one more.
+const TOO_MANY: usize = 101;
+
+// Whether the text is answered so.
+fn is_answered(alloc: Global, kind: Kind, text: &str, want: &str) -> bool {
+    answer(alloc, kind, Form::Prefix, text).text() == want
 }
 
-fn expr_of(alloc: Global, text: &str) -> Result<Expr, Refusal> {
-    let tokens = match lex(alloc, text) {
-        Ok(tokens) => tokens,
-        Err(_) => return Err(Refusal::Lexeme),
+// Whether the text is read as this tree again once each part is in brackets.
+fn is_read_in_brackets(alloc: Global, kind: Kind, text: &str, want: &str) -> bool {
+    let bracketed = answer(alloc, kind, Form::Sql, text);
+    is_answered(alloc, kind, bracketed.text(), want)
+}
+
+// Whether the whole text is that of the definition, if it is one.
+fn is_source(alloc: Global, text: &str) -> bool {
+    let found = source(alloc, text);
+    found.text() == text || found.text() == NO_DEFINITION
+}
+
+// Whether the text of the line is read as its tree.
+fn is_told(alloc: Global, kind: Kind, line: &str) -> bool {
+    let Some((text, want)) = line.split_once("  ->  ") else {
+        return false;
     };
-    match parse_expr(alloc, tokens.as_slice()) {
-        Ok(expr) => Ok(expr),
-        Err(fail) => Err(Refusal::Parse(fail)),
-    }
-}
-
-fn query_of(alloc: Global, text: &str) -> Result<Query, Refusal> {
-    let tokens = match lex(alloc, text) {
-        Ok(tokens) => tokens,
-        Err(_) => return Err(Refusal::Lexeme),
-    };
-    match parse_query(alloc, tokens.as_slice()) {
-        Ok(query) => Ok(query),
-        Err(fail) => Err(Refusal::Parse(fail)),
-    }
-}
-
-// Written from a copy, which so is tried too.
-fn prefix_of_expr(alloc: Global, expr: &Expr) -> Result<Words, AllocError> {
-    let mut out = Words::new(alloc);
-    print_expr(&mut out, &expr.copy(alloc)?)?;
-    Ok(out)
-}
-
-fn bracketed_expr(alloc: Global, expr: &Expr) -> Result<Words, AllocError> {
-    let mut out = Words::new(alloc);
-    write_expr(&mut out, expr)?;
-    Ok(out)
-}
-
-// Written from a copy, which so is tried too.
-fn prefix_of_query(alloc: Global, query: &Query) -> Result<Words, AllocError> {
-    let mut out = Words::new(alloc);
-    print_query(&mut out, &query.copy(alloc)?)?;
-    Ok(out)
-}
-
-fn bracketed_query(alloc: Global, query: &Query) -> Result<Words, AllocError> {
-    let mut out = Words::new(alloc);
-    write_query(&mut out, query)?;
-    Ok(out)
-}
-
-pub(crate) fn is(words: Result<Words, AllocError>, want: &str) -> bool {
-    match words {
-        Ok(words) => words.as_bytes() == want.as_bytes(),
-        Err(_) => false,
-    }
-}
-
-/// Whether the text is read as an expression that is printed so.
-fn is_expr(alloc: Global, text: &str, want: &str) -> bool {
-    match expr_of(alloc, text) {
-        Ok(expr) => is(prefix_of_expr(alloc, &expr), want),
-        Err(_) => false,
-    }
-}
-
-/// Whether it is also read so once each part is in brackets.
-fn is_expr_in_brackets(alloc: Global, text: &str, want: &str) -> bool {
-    let words = match expr_of(alloc, text) {
-        Ok(expr) => bracketed_expr(alloc, &expr),
-        Err(_) => return false,
-    };
-    match words {
-        Ok(words) => is_expr(alloc, from_utf8(words.as_bytes()).unwrap_or(""), want),
-        Err(_) => false,
-    }
-}
-
-/// Whether the text is read as a query that is printed so.
-fn is_query(alloc: Global, text: &str, want: &str) -> bool {
-    match query_of(alloc, text) {
-        Ok(query) => is(prefix_of_query(alloc, &query), want),
-        Err(_) => false,
-    }
-}
-
-/// Whether it is also read so once each part is in brackets.
-fn is_query_in_brackets(alloc: Global, text: &str, want: &str) -> bool {
-    let words = match query_of(alloc, text) {
-        Ok(query) => bracketed_query(alloc, &query),
-        Err(_) => return false,
-    };
-    match words {
-        Ok(words) => is_query(alloc, from_utf8(words.as_bytes()).unwrap_or(""), want),
-        Err(_) => false,
-    }
+    is_answered(alloc, kind, text, want)
+        && match kind {
+            Kind::Expression | Kind::Query => is_read_in_brackets(alloc, kind, text, want),
+            Kind::Command => is_source(alloc, text),
+        }
 }
 
 // Whether the line has an entry.
-pub(crate) fn is_entry(line: &str) -> bool {
+fn is_entry(line: &str) -> bool {
     !line.is_empty() && !line.starts_with("--")
 }
 
-/// Whether the text of the line is read as its tree, and again once each part is in brackets.
-fn is_told_expr(alloc: Global, line: &str) -> bool {
-    match line.split_once("  ->  ") {
-        Some((text, want)) => {
-            is_expr(alloc, text, want) && is_expr_in_brackets(alloc, text, want)
-        }
-        None => false,
-    }
-}
-
-fn is_told_query(alloc: Global, line: &str) -> bool {
-    match line.split_once("  ->  ") {
-        Some((text, want)) => {
-            is_query(alloc, text, want) && is_query_in_brackets(alloc, text, want)
-        }
-        None => false,
-    }
-}
-
 /// The first line of a table whose text is read otherwise than there.
-fn other_expr(alloc: Global, table: &str) -> Option<&str> {
+fn other(alloc: Global, kind: Kind, table: &str) -> Option<&str> {
     for line in table.lines() {
-        if is_entry(line) && !is_told_expr(alloc, line) {
-            return Some(line);
-        }
-    }
-    None
-}
-
-fn other_query(alloc: Global, table: &str) -> Option<&str> {
-    for line in table.lines() {
-        if is_entry(line) && !is_told_query(alloc, line) {
+        if is_entry(line) && !is_told(alloc, kind, line) {
             return Some(line);
         }
     }
@@ -164,42 +66,21 @@ fn other_query(alloc: Global, table: &str) -> Option<&str> {
 }
 
 #[test]
-fn expressions_are_read_as_their_trees(rt: HostRuntime) {
-    assert_eq!(rt; other_expr(rt.alloc(), EXPRESSIONS), None);
-    assert_eq!(rt; other_expr(rt.alloc(), SCRIPT_EXPRESSIONS), None);
+fn texts_are_read_as_their_trees(rt: HostRuntime) {
+    let alloc = rt.alloc();
+    assert_eq!(rt; other(alloc, Kind::Expression, EXPRESSIONS), None);
+    assert_eq!(rt; other(alloc, Kind::Expression, SCRIPT_EXPRESSIONS), None);
+    assert_eq!(rt; other(alloc, Kind::Query, QUERIES), None);
+    assert_eq!(rt; other(alloc, Kind::Query, SCRIPT_QUERIES), None);
+    assert_eq!(rt; other(alloc, Kind::Command, COMMANDS), None);
 }
 
-#[test]
-fn queries_are_read_as_their_trees(rt: HostRuntime) {
-    assert_eq!(rt; other_query(rt.alloc(), QUERIES), None);
-    assert_eq!(rt; other_query(rt.alloc(), SCRIPT_QUERIES), None);
-}
-
-// Whether the text is refused as no expression.
-fn is_no_expr(alloc: Global, text: &str) -> bool {
-    matches!(expr_of(alloc, text), Err(Refusal::Parse(ParseFail::Syntax)))
-}
-
-fn is_no_query(alloc: Global, text: &str) -> bool {
-    matches!(
-        query_of(alloc, text),
-        Err(Refusal::Parse(ParseFail::Syntax))
-    )
-}
+// ---- refusals
 
 /// The first line that is read, or refused for another cause than its syntax.
-fn read_expr(alloc: Global, table: &str) -> Option<&str> {
+fn read(alloc: Global, kind: Kind, table: &str) -> Option<&str> {
     for line in table.lines() {
-        if is_entry(line) && !is_no_expr(alloc, line) {
-            return Some(line);
-        }
-    }
-    None
-}
-
-fn read_query(alloc: Global, table: &str) -> Option<&str> {
-    for line in table.lines() {
-        if is_entry(line) && !is_no_query(alloc, line) {
+        if is_entry(line) && !is_answered(alloc, kind, line, SYNTAX) {
             return Some(line);
         }
     }
@@ -208,82 +89,127 @@ fn read_query(alloc: Global, table: &str) -> Option<&str> {
 
 #[test]
 fn what_no_tree_spells_is_refused(rt: HostRuntime) {
-    assert_eq!(rt; read_expr(rt.alloc(), NO_EXPRESSIONS), None);
-    assert_eq!(rt; read_query(rt.alloc(), NO_QUERIES), None);
+    let alloc = rt.alloc();
+    assert_eq!(rt; read(alloc, Kind::Expression, NO_EXPRESSIONS), None);
+    assert_eq!(rt; read(alloc, Kind::Query, NO_QUERIES), None);
+    assert!(rt; is_answered(alloc, Kind::Command, "", SYNTAX));
+    assert_eq!(rt; read(alloc, Kind::Command, NO_COMMANDS), None);
+    assert_eq!(rt; read(alloc, Kind::Command, NO_DEFINITIONS), None);
 }
 
-/// The text between so many opening brackets and as many closing ones.
-pub(crate) fn nested(
-    alloc: Global,
-    first: &str,
-    count: usize,
-    text: &str,
-) -> Result<String, AllocError> {
-    let mut all = String::new(alloc);
-    all.push_str(first)?;
-    for _ in 0..count {
-        all.push_str("(")?;
-    }
-    all.push_str(text)?;
-    for _ in 0..count {
-        all.push_str(")")?;
-    }
-    Ok(all)
+// ---- commands that are left out
+
+// Whether the command between these two is answered so.
+fn is_answered_between(alloc: Global, before: &str, text: &str, behind: &str, want: &str) -> bool {
+    let mut all = Words::new(alloc, Form::Prefix);
+    all.push(before.as_bytes());
+    all.push(text.as_bytes());
+    all.push(behind.as_bytes());
+    is_answered(alloc, Kind::Command, all.text(), want)
 }
 
-/// The token, counted from 0, at which the text is too deep for an expression.
-fn deep_expr(alloc: Global, text: &str) -> Option<usize> {
-    match expr_of(alloc, text) {
-        Err(Refusal::Parse(ParseFail::TooDeep { at })) => Some(at),
-        _ => None,
-    }
+// Whether the command is left out, also where it would be too deep.
+fn is_left_out(alloc: Global, text: &str) -> bool {
+    let deep = nested(alloc, text, TOO_MANY, "", 0);
+    is_answered(alloc, Kind::Command, text, LEFT_OUT)
+        && is_answered(alloc, Kind::Command, deep.text(), LEFT_OUT)
 }
 
-/// The token, counted from 0, at which the text is too deep for a query.
-fn deep_query(alloc: Global, text: &str) -> Option<usize> {
-    match query_of(alloc, text) {
-        Err(Refusal::Parse(ParseFail::TooDeep { at })) => Some(at),
-        _ => None,
-    }
+// Whether the word begins a command that is left out, whatever stands behind it, but in quotes none.
+fn leaves_out(alloc: Global, word: &str) -> bool {
+    is_left_out(alloc, word)
+        && is_answered_between(alloc, "", word, " t", LEFT_OUT)
+        && is_answered_between(alloc, "", word, "(1 + 'x'", LEFT_OUT)
+        && is_answered_between(alloc, "\"", word, "\" t", SYNTAX)
 }
 
-fn is_nested_expr(alloc: Global, count: usize, text: &str, want: &str) -> bool {
-    match nested(alloc, "", count, text) {
-        Ok(text) => is_expr(alloc, text.as_str(), want),
-        Err(_) => false,
+/// The first word that does not.
+fn other_word(alloc: Global, table: &str) -> Option<&str> {
+    for line in table.lines() {
+        if is_entry(line) && !leaves_out(alloc, line) {
+            return Some(line);
+        }
     }
+    None
 }
 
-fn is_nested_query(alloc: Global, count: usize, text: &str, want: &str) -> bool {
-    match nested(alloc, "SELECT ", count, text) {
-        Ok(text) => is_query(alloc, text.as_str(), want),
-        Err(_) => false,
+/// The first line that is no command that is left out.
+fn not_left_out(alloc: Global, table: &str) -> Option<&str> {
+    for line in table.lines() {
+        if is_entry(line) && !is_left_out(alloc, line) {
+            return Some(line);
+        }
     }
+    None
 }
 
-fn is_deep_expr(alloc: Global, count: usize, text: &str, want: Option<usize>) -> bool {
-    match nested(alloc, "", count, text) {
-        Ok(text) => deep_expr(alloc, text.as_str()) == want,
-        Err(_) => false,
-    }
+#[test]
+fn first_words_tell_what_is_left_out(rt: HostRuntime) {
+    let alloc = rt.alloc();
+    assert_eq!(rt; other_word(alloc, LEFT_OUT_WORDS), None);
+    assert_eq!(rt; not_left_out(alloc, LEFT_OUT_COMMANDS), None);
+    assert_eq!(rt; not_left_out(alloc, LEFT_OUT_DEFINITIONS), None);
 }
 
-fn is_deep_query(alloc: Global, count: usize, text: &str, want: Option<usize>) -> bool {
-    match nested(alloc, "SELECT ", count, text) {
-        Ok(text) => deep_query(alloc, text.as_str()) == want,
-        Err(_) => false,
+// ---- depth
+
+/// The text with so many opening brackets and so many closing ones round its end.
+fn nested(alloc: Global, before: &str, opened: usize, inside: &str, closed: usize) -> Words {
+    let mut all = Words::new(alloc, Form::Prefix);
+    all.push(before.as_bytes());
+    for _ in 0..opened {
+        all.push(b"(");
     }
+    all.push(inside.as_bytes());
+    for _ in 0..closed {
+        all.push(b")");
+    }
+    all
 }
 
 #[test]
 fn a_hundred_brackets_are_read_and_no_more(rt: HostRuntime) {
-    assert!(rt; is_nested_expr(rt.alloc(), 100, "a", "a"));
-    assert!(rt; is_nested_query(rt.alloc(), 100, "1", "(select 1)"));
-    assert!(rt; is_deep_expr(rt.alloc(), 101, "a", Some(100)));
-    assert!(rt; is_deep_query(rt.alloc(), 101, "1", Some(101)));
-    // Depth is told before syntax, and a text that is no deeper is refused for its syntax.
-    assert!(rt; is_deep_expr(rt.alloc(), 101, "a b", Some(100)));
-    assert!(rt; is_deep_query(rt.alloc(), 101, "FROM", Some(101)));
-    assert!(rt; is_deep_expr(rt.alloc(), 100, "a b", None));
-    assert!(rt; is_deep_query(rt.alloc(), 100, "FROM", None));
+    let alloc = rt.alloc();
+    for (kind, before, opened, inside, closed, want) in DEPTHS {
+        let text = nested(alloc, before, opened, inside, closed);
+        let told = answer(alloc, kind, Form::Prefix, text.text());
+        assert_eq!(rt; told.text(), want, "{before}{opened} brackets");
+    }
+}
+
+// ---- the text of a definition
+
+#[test]
+fn a_definition_has_its_text(rt: HostRuntime) {
+    let alloc = rt.alloc();
+    for (text, want) in SOURCES {
+        assert_eq!(rt; source(alloc, text).text(), want);
+    }
+    for (from, want) in SCRIPT_SOURCES {
+        assert_eq!(rt; script_source(alloc, SOURCE_SCRIPT, from).text(), want);
+    }
+}
+
+// ---- scripts
+
+/// How many commands the script has, if each is read, or where the first is looked for that is not.
+fn commands_read(alloc: Global, script: &str) -> Result<usize, usize> {
+    let mut from = 0;
+    for count in 0..script.len() {
+        let end = match cut(alloc, script, from.min(script.len())) {
+            Ok(Some(piece)) => piece.end,
+            Ok(None) => return Ok(count),
+            Err(_) => return Err(from),
+        };
+        if !script_answer(alloc, script, from).text().starts_with('(') {
+            return Err(from);
+        }
+        from = end + 1;
+    }
+    Err(from)
+}
+
+#[test]
+fn commands_of_scripts_are_read(rt: HostRuntime) {
+    assert_eq!(rt; commands_read(rt.alloc(), SCRIPTS), Ok(180));
 }
