@@ -1,2 +1,4 @@
 mod Places
+mod Rows
+mod Plain
 mod Marked

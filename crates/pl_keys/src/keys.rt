@@ -1,14 +1,16 @@
 //! Rows of which each is found by its values.
 
-ghost use Rattle.std.specs.Prelude.{◌≡◌, ◌==◌, ℕ, [], ◌∷◌, ◌++◌, length, nat_eq, OnOk, OnErr, Some};
+ghost use Rattle.std.specs.Prelude.{◌≡◌, ◌==◌, ◌↔◌, ℕ, [], ◌∷◌, ◌++◌, length, map, nat_eq, IsTrue};
+ghost use Rattle.std.specs.Prelude.{IfOk, OnOk, OnErr, Some};
 ghost use Rattle.std.specs.HashMap.{get};
 ghost use Rattle.pl_keys.specs.Marks.{mark_of, noted};
-ghost use Rattle.pl_keys.specs.Same.{place_of, same};
+ghost use Rattle.pl_keys.specs.Same.{place_of, plain, same, with_row};
 
 use crate::marks::mark_of;
+use crate::order::value_order;
 use pl_base::{Cells, Value};
-use pl_calc::is_distinct;
 use std::alloc::{AllocError, Global};
+use std::cmp::Ordering;
 use std::collections::HashMap;
 use std::marker::Model;
 
@@ -78,6 +80,22 @@ impl Keys {
         Ok(())
     }
 
+    /// The place of the first row that is the same. Where there is none, the row is put behind the
+    /// others.
+    pub fn find_or_add(&mut self, row: Cells) -> Result<Option<usize>, AllocError>
+        ensures place { IfOk result (λ place. place ≡ place_of (same row) self.old) }
+        ensures ok { OnOk result (self.new ≡ with_row (place_of (same row) self.old) self.old row) }
+        ensures err { OnErr result (self.new ≡ self.old) }
+    {
+        match self.find(row.as_slice()) {
+            Some(place) => Ok(Some(place)),
+            None => {
+                self.add(row)?;
+                Ok(None)
+            }
+        }
+    }
+
     /// The rows themselves.
     pub fn into_rows(self) -> Vec<Cells>
         ensures { result.items ≡ self }
@@ -136,8 +154,15 @@ fn place_in(rows: &[Cells], row: &[Value]) -> Option<usize>
     None
 }
 
-/// No two values of the rows are distinct.
+/// The rows have equally many values, and these are the same one by one.
 pub fn is_same(row: &[Value], other: &[Value]) -> bool
+    ensures same { result ≡ same row.now other.now }
+    ensures equal { IsTrue result ↔ (map plain row.now ≡ map plain other.now) }
+{
+    have_same_values(row, other)
+}
+
+fn have_same_values(row: &[Value], other: &[Value]) -> bool
     ensures { result ≡ same row.now other.now }
 {
     let mut row = row;
@@ -149,7 +174,7 @@ pub fn is_same(row: &[Value], other: &[Value]) -> bool
         let Some((b, others)) = other.split_first() else {
             return false;
         };
-        if is_distinct(a, b) != Some(false) {
+        if value_order(a, b) != Ordering::Equal {
             return false;
         }
         row = more;

@@ -3,4 +3,4 @@ use Rattle.pl_keys.specs.Marks.{mixed}
 use Rattle.pl_keys.proofs.marks.mark_of_bytes.Given as goal
 
 abbrev pub invariant-loop-byte : goal.invariant-loop-byte
-invariant-loop-byte l = l.mark ≡ fold mixed 2 (take l.byte-index l.bytes)
+invariant-loop-byte l = l.mark ≡ fold mixed 5 (take l.byte-index l.bytes)

@@ -1,0 +1,78 @@
+//! ORDER BY: PostgreSQL manual, "Sorting Rows (ORDER BY)".
+
+ghost use Rattle.std.specs.Prelude.{◌≡◌, OnErr, OnOk, slice_get, unwrap_or};
+ghost use Rattle.pl_order.specs.Order.{key_order, null_place, order_by, sorted, value_in};
+
+use pl_base::{Cells, Value};
+use pl_keys::value_order;
+use pl_resolved::RKey;
+use std::alloc::AllocError;
+use std::cmp::Ordering;
+
+/// Puts the rows in order, the first key counting most. Rows that tie stay as they came. An item
+/// that a row doesn't have counts as null.
+pub fn sort(rows: &mut Vec<Cells>, keys: &[RKey]) -> Result<(), AllocError>
+    ensures ok { OnOk result (rows.new.items ≡ sorted (order_by keys.now) rows.old.items) }
+    ensures err { OnErr result (rows.new.items ≡ rows.old.items) }
+{
+    rows.sort_by(
+        |a: &Cells, b: &Cells| -> Ordering
+            ensures { result ≡ order_by keys.entry.now a.now b.now }
+        { order_by(keys, a.as_slice(), b.as_slice()) },
+    )
+}
+
+fn order_by(keys: &[RKey], a: &[Value], b: &[Value]) -> Ordering
+    ensures { result ≡ order_by keys.now a.now b.now }
+{
+    for key in keys {
+        let order = item_order(key, a, b);
+        if order != Ordering::Equal {
+            return order;
+        }
+    }
+    Ordering::Equal
+}
+
+fn item_order(key: &RKey, a: &[Value], b: &[Value]) -> Ordering
+    ensures { result ≡
+        key_order key.now (value_in a.now key.now.item) (value_in b.now key.now.item) }
+{
+    let null = Value::Null;
+    key_order(
+        key,
+        item_or(a, key.item, &null),
+        item_or(b, key.item, &null),
+    )
+}
+
+fn item_or<'a>(row: &'a [Value], item: usize, absent: &'a Value) -> &'a Value
+    ensures { result.now ≡ unwrap_or (slice_get row.now item) absent.now }
+{
+    match row.get(item) {
+        Some(value) => value,
+        None => absent,
+    }
+}
+
+fn key_order(key: &RKey, a: &Value, b: &Value) -> Ordering
+    ensures { result ≡ key_order key.now a.now b.now }
+{
+    let order = null_place(key, a).cmp(&null_place(key, b));
+    if order != Ordering::Equal {
+        order
+    } else if key.is_descending {
+        value_order(b, a)
+    } else {
+        value_order(a, b)
+    }
+}
+
+fn null_place(key: &RKey, v: &Value) -> u8
+    ensures { result ≡ null_place key.now v.now }
+{
+    match v {
+        Value::Null => { if key.nulls_first { 0 } else { 2 } }
+        _ => 1,
+    }
+}
