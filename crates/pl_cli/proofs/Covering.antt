@@ -47,7 +47,7 @@ module _ (a b : View) (name : List ℕ) (lawful : IsLawful a) (told : a.told)
   elapsed = since_attach name a b (StartPair a) first told
 
   pair : (p : List ℕ) (c : Image) → b.since a.moment p c → StartPair a p c
-  pair p c left = each a b (StartPair a) lawful elapsed (λ i now. record { printed = refl; opened = inl now; area_b = (i, now, refl) }) p c left
+  pair p c left = each a b (StartPair a) lawful elapsed (λ i now. record { printed = refl; opened = inl now }) p c left
 
   start_left : (events : List Event) (db : Database) → opens a.seen ≡ Ok db → (p : List ℕ) (c : Image) → b.since a.moment p c → LeftBy a.may_leave a events db p c
   start_left events db is p c left =

@@ -1,25 +1,27 @@
 -- The steps of a run put together.
-use Rattle.std.proofs.Common.{◌≡◌, ◌≢◌, ◌⊎◌, ◌<◌, ◌≤◌, ◌-◌, ◌^◌, ◌&&◌, Bool, arith, inl, inr, ⊎_elim, ℕ, List, [], ◌∷◌, ◌++◌, Result, Ok, Option, Some, refl, sym, ◌∙◌, ap, subst}
+use Rattle.std.proofs.Common.{◌≡◌, ◌≢◌, ◌⊎◌, ◌<◌, ◌≤◌, ◌-◌, ◌^◌, ◌&&◌, Bool, arith, inl, inr, ⊎_elim, ℕ, List, [], ◌∷◌, ◌++◌, Result, Ok, Err, Option, Some, refl, sym, ◌∙◌, ap, subst}
 use Rattle.std.proofs.lemmas.List.{append-nil}
 use Rattle.std.proofs.Math.Nat.{eq-or-lt_of_le}
-use Rattle.pl_base.specs.Image.{Image}
+use Rattle.pl_base.specs.Image.{Image, file}
+use Rattle.pl_base.specs.declared.area.Area.{Area}
 use Rattle.pl_disk.specs.Disk.{View, IsLawful, Calls, IsPrefix, Keeps, Rises, Runs, Untouched, with_attached}
 use Rattle.pl_disk.specs.Lent.{each, from_call, goes_on, runs_on, since_attach, weaker}
 use Rattle.pl_disk.specs.declared.device.Failed.{Failed}
-use Rattle.pl_keeper.specs.Store.{KeepsB}
+use Rattle.pl_keeper.specs.Batches.{Damage}
+use Rattle.pl_keeper.specs.Store.{KeepsFile}
 use Rattle.pl_meaning.specs.Covered.{AlongFrom}
 use Rattle.pl_meaning.specs.Database.{Database}
 use Rattle.pl_meaning.specs.Meaning.{AreOfFirst, IsTrace}
 use Rattle.pl_meaning.specs.Opening.{opens}
 use Rattle.pl_meaning.specs.Trace.{Event, Said, is_failed, text as text_of}
 use Rattle.pl_session.specs.Starts.{StartPair}
-use Rattle.pl_session.specs.AreaB.{KeepsAreaB}
+use Rattle.pl_session.specs.Spare.{KeepsArea}
 use Rattle.pl_session.specs.Endings.{Done, PrintsWhole}
-use Rattle.pl_session.specs.Lent.{area_b_kept}
+use Rattle.pl_session.specs.Lent.{area_kept, area_still}
 use Rattle.pl_cli.specs.Line.{Asked, Word, asked}
 use Rattle.pl_cli.specs.Parts.{SaysLast, ScriptEnd}
-use Rattle.pl_cli.specs.Printed.{refusal_line}
-use Rattle.pl_cli.specs.Runs.{HasCause, IsDue, IsStored, IsWhole, OnlySays, Over}
+use Rattle.pl_cli.specs.Printed.{damage_line, refusal_line}
+use Rattle.pl_cli.specs.Runs.{HasCause, IsDue, IsEarly, IsLine, IsStored, IsWhole, OnlySays, Over}
 use Rattle.pl_cli.specs.Script.{IsFirst, IsRefusedAt, IsScript, Spoils, script_text}
 use Rattle.pl_cli.specs.declared.ending.Ending.{Ending}
 use Rattle.pl_cli.proofs.Traces.{none_yet}
@@ -73,12 +75,12 @@ attached_untouched a b d name result told call keeps rest = record {
       (record { later = first.later; nothing_else = first.nothing_else; keeps = first.keeps }) rest.time (λ p c is. keeps.crash c is.1) (λ p c is. keeps.crash c is);
 }
 
-pub says_nothing : (a b : View) (name : List ℕ) → IsLawful a → a.told → Runs (with_attached name a) b (StartPair a) → Untouched a b → OnlySays [] a b
-says_nothing a b name lawful told first untouched = record {
+pub says_nothing : (line : List ℕ) (a b : View) (name : List ℕ) → IsLawful a → a.told → Runs (with_attached name a) b (StartPair a) → Untouched a b → OnlySays line a b
+says_nothing line a b name lawful told first untouched = record {
   untouched = untouched;
   front = λ p c left.
-      let it = each a b (StartPair a) lawful (since_attach name a b (StartPair a) first told) (λ i now. record { printed = refl; opened = inl now; area_b = (i, now, refl) }) p c left in
-      ([], ([], refl), it.printed ∙ sym (append-nil a.printed));
+      let it = each a b (StartPair a) lawful (since_attach name a b (StartPair a) first told) (λ i now. record { printed = refl; opened = inl now }) p c left in
+      ([], (line, refl), it.printed ∙ sym (append-nil a.printed));
 }
 
 -- ---- a last line
@@ -99,30 +101,113 @@ says_done a d line ending result db says told other all_open = record {
   opens_to = λ c left. all_open c ((says.images told).crash c left);
 }
 
+pub ended_not_say : (e : Ending) → (e ≡ Whole) ⊎ ((e ≡ AtError) ⊎ (e ≡ Refused)) → e ≡ Say → ⊥
+ended_not_say e (inl is) say = cc
+ended_not_say e (inr (inl is)) say = cc
+ended_not_say e (inr (inr is)) say = cc
+
+pub ended_not_memory : (e : Ending) → (e ≡ Whole) ⊎ ((e ≡ AtError) ⊎ (e ≡ Refused)) → e ≡ Memory → ⊥
+ended_not_memory e (inl is) none = cc
+ended_not_memory e (inr (inl is)) none = cc
+ended_not_memory e (inr (inr is)) none = cc
+
 pub not_memory : (e : Ending) (X : Type 0) → e ≡ Memory → (e ≡ Refused) ⊎ ((e ≡ Say) × X) → ⊥
 not_memory e X is (inl refused) = cc
 not_memory e X is (inr say) = let other = say.0 in cc
 
--- ---- area B
+-- ---- the area that doesn't count
 
-pub area_b_said : (a d : View) (line : List ℕ) (ending result : Ending) → a.told → SaysLast line ending a d result → KeepsAreaB a d
-area_b_said a d line ending result told says = area_b_kept a d (λ p. (said : List ℕ) × IsPrefix said line × (p ≡ a.printed ++ said)) (says.images told) (says.time told)
+pub area_said : (area : Area) (a d : View) (line : List ℕ) (ending result : Ending) → a.told → SaysLast line ending a d result → KeepsArea area a d
+area_said area a d line ending result told says =
+    area_kept area a d (λ p. (said : List ℕ) × IsPrefix said line × (p ≡ a.printed ++ said)) (says.images told) (says.time told)
 
-pub area_b_started : (a d : View) (name : List ℕ) → a.told → Runs (with_attached name a) d (StartPair a) → d.seen.b ≡ a.seen.b → KeepsAreaB a d
-area_b_started a d name told run reads = record {
-  reads = reads;
-  time = weaker a d (StartPair a) (λ p c. KeepsB a c) (since_attach name a d (StartPair a) run told) (λ p c is. is.area_b);
+pub area_attached : {T : Type 0} (area : Area) (a b d : View) (name : List ℕ) (result : Result T Failed) → a.told → Calls (with_attached name a) b result → Keeps a b → KeepsArea area b d → KeepsArea area a d
+area_attached area a b d name result told call keeps rest = record {
+  reads = rest.reads ∙ ap (λ (i : Image). file area i) keeps.seen;
+  time = let first = call.time told in
+      goes_on a b d (λ p c. (p ≡ a.printed) × b.may_leave c) (λ p c. KeepsFile area b c) (λ p c. KeepsFile area a c)
+      (record { later = first.later; nothing_else = first.nothing_else; keeps = first.keeps }) rest.time (λ p c is. (c, keeps.crash c is.1, refl)) (λ p c is. (is.0, keeps.crash is.0 is.1, is.2));
 }
+
+pub area_not_attached : {T : Type 0} (area : Area) (a b : View) (name : List ℕ) (result : Result T Failed) → a.told → Calls (with_attached name a) b result → Keeps a b → KeepsArea area a b
+area_not_attached area a b name result told call keeps = area_attached area a b b name result told call keeps (area_still area b)
+
+-- ---- a damaged store
+
+not_early : (e : Ending) → (e ≡ Disk → ⊥) → (e ≡ Damaged → ⊥) → (e ≡ Say → ⊥) → (e ≡ Memory → ⊥) → IsEarly e → ⊥
+not_early e disk damaged say memory (inl is) = disk is
+not_early e disk damaged say memory (inr (inl is)) = damaged is
+not_early e disk damaged say memory (inr (inr (inl is))) = say is
+not_early e disk damaged say memory (inr (inr (inr is))) = memory is
+
+pub not_opened : (o : Result Database Damage) (damage : Damage) (db : Database) → o ≡ Err damage → o ≡ Ok db → ⊥
+not_opened o damage db damaged opened = cc
+
+pub same_damage : (o : Result Database Damage) (x y : Damage) → o ≡ Err x → o ≡ Err y → x ≡ y
+same_damage o x y one two = cc
+
+-- where a store is damaged was said, or for want of memory it wasn't
+abbrev pub Tells : {H : Type 0} → (H → View) → List ℕ → (old new : H) → Ending → Type 0
+Tells view line old new e = SaysLast line Damaged (view old) (view new) e ⊎ ((e ≡ Memory) × (new ≡ old))
+
+pub tells_at : {H : Type 0} (view : H → View) (area area' : Area) (at at' : ℕ) (old new : H) (e : Ending) → area ≡ area' → at ≡ at' → Tells view (damage_line area at) old new e → Tells view (damage_line area' at') old new e
+tells_at view area area' at at' old new e is_area is_at tells = subst (λ (line : List ℕ). Tells view line old new e) (λ i. damage_line (is_area i) (is_at i)) tells
+
+module _ {H : Type 0} (view : H → View) (line : List ℕ) (a : View) (old new : H) (e : Ending) (tells : Tells view line old new e) where
+  pub tells_early : IsEarly e
+  tells_early = ⊎_elim (λ says. ⊎_elim (λ is. inr (inl is)) (λ say. inr (inr (inl say.0))) says.known) (λ none. inr (inr (inr none.0))) tells
+
+  pub tells_cause : (words : List Word) (left : Option (List ℕ)) (before after : ℕ) (damage : Damage) → IsLine words → (a.told → opens a.seen ≡ Err damage) → a.say_faults ≤ (view old).say_faults
+      → HasCause e words a (view new) left before after
+  tells_cause words left before after damage is_line cause below = ⊎_elim
+      (λ says. ⊎_elim (λ is. subst (λ (x : Ending). HasCause x words a (view new) left before after) (sym is) (is_line, λ told. (damage, cause told)))
+      (λ say. subst (λ (x : Ending). HasCause x words a (view new) left before after) (sym say.0) (rises_on a.say_faults (view old).say_faults (view new).say_faults below says.continues.say_faults say.1)) says.known)
+      (λ none. subst (λ (x : Ending). HasCause x words a (view new) left before after) (sym none.0) (inl is_line)) tells
+
+  pub tells_place : e ≡ Damaged → (view old).told → (view old).printed ≡ a.printed → (view new).printed ≡ a.printed ++ line
+  tells_place is told printed = ⊎_elim (λ says. says.whole told (λ say. other (sym is ∙ say)) ∙ ap (λ (l : List ℕ). l ++ line) printed) (λ none. absurd (no_memory (sym is ∙ none.0))) tells
+    where
+      other : Damaged ≡ Say → ⊥
+      other h = cc
+
+      no_memory : Damaged ≡ Memory → ⊥
+      no_memory h = cc
+
+  abbrev is_front : List ℕ → Type 0
+  is_front p = (said : List ℕ) × IsPrefix said line × (p ≡ a.printed ++ said)
+
+  pub tells_only : (name : List ℕ) → IsLawful a → a.told → (view old).told → Runs (with_attached name a) (view old) (StartPair a) → Untouched a (view old) → (view old).printed ≡ a.printed → OnlySays line a (view new)
+  tells_only name lawful told now first untouched printed = ⊎_elim (λ says. by_line says) (λ none. subst (λ (h : H). OnlySays line a (view h)) (sym none.1) (says_nothing line a (view old) name lawful told first untouched)) tells
+    where
+      by_line : SaysLast line Damaged (view old) (view new) e → OnlySays line a (view new)
+      by_line says =
+          let keeps = says.images now in
+          let fronts = goes_on a (view old) (view new) (StartPair a) (λ p c. ((said : List ℕ) × IsPrefix said line × (p ≡ (view old).printed ++ said)) × (view old).may_leave c) (λ p c. is_front p) (since_attach name a (view old) (StartPair a) first told) (says.time now)
+          (λ p c is. ([], (line, refl), is.printed ∙ sym (append-nil a.printed))) (λ p c is. (is.0.0, is.0.1, is.0.2 ∙ ap (λ (l : List ℕ). l ++ is.0.0) printed)) in
+          record {
+            untouched = record {
+              seen = keeps.seen ∙ untouched.seen;
+              now = λ c left. untouched.now c (keeps.crash c left);
+              time = goes_on a (view old) (view new) (λ p c. a.may_leave c) (λ p c. ((said : List ℕ) × IsPrefix said line × (p ≡ (view old).printed ++ said)) × (view old).may_leave c) (λ p c. a.may_leave c) untouched.time (says.time now) (λ p c is. is) (λ p c is. untouched.now c is.1);
+            };
+            front = λ p c left. each a (view new) (λ p c. is_front p) lawful fronts (λ i still. ([], (line, refl), sym (append-nil a.printed))) p c left;
+          }
+
+pub not_read : (e : Ending) → IsEarly e → (e ≡ Whole) ⊎ (e ≡ AtError) → ⊥
+not_read e early (inl whole) = not_early e (λ h. cc) (λ h. cc) (λ h. cc) (λ h. cc) early
+not_read e early (inr error) = not_early e (λ h. cc) (λ h. cc) (λ h. cc) (λ h. cc) early
+
+pub not_usage : (e : Ending) → IsEarly e → e ≡ Usage → ⊥
+not_usage e early is = not_early e (λ h. cc) (λ h. cc) (λ h. cc) (λ h. cc) early
 
 -- ---- the store is attached, and then opened
 
 pub attached_start : {T : Type 0} (a b d : View) (name : List ℕ) (result : Result T Failed) → Calls (with_attached name a) b result → (a.told → Keeps a b) → Runs b d (StartPair b) → Runs (with_attached name a) d (StartPair a)
 attached_start a b d name result call keeps run = runs_on (with_attached name a) b d (λ p c. (p ≡ a.printed) × b.may_leave c) (StartPair b) (StartPair a) (from_call (with_attached name a) b result call) run
-    (λ told p c is. let k = keeps told in record { printed = is.0; opened = inl (k.crash c is.1); area_b = (c, k.crash c is.1, refl) })
+    (λ told p c is. let k = keeps told in record { printed = is.0; opened = inl (k.crash c is.1) })
     (λ told p c is. let k = keeps told in record {
       printed = is.printed ∙ call.printed told;
       opened = ⊎_elim (λ was. inl (k.crash c was)) (λ same. inr (same ∙ ap opens k.seen)) is.opened;
-      area_b = (is.area_b.0, k.crash is.area_b.0 is.area_b.1, is.area_b.2);
     })
 
 -- ---- why a run ends, by why its script does
@@ -137,7 +222,7 @@ cause_of Whole words a b d left before after text line found ends asks stored wh
 cause_of AtError words a b d left before after text line found ends asks stored whole due d1 d2 s1 s2 =
     ((line, asks), stored, whole, λ db events over. ap (λ (l : Asked). l.stops_on_error && is_failed events) (one_asked (asked words) over.line line over.asks asks) ∙ (ends events (due db events over)).1)
 cause_of Disk words a b d left before after text line found ends asks stored whole due d1 d2 s1 s2 = ((line, asks), rises_on _ _ _ d1 d2 ends.0)
-cause_of Say words a b d left before after text line found ends asks stored whole due d1 d2 s1 s2 = (λ is_line. stored, rises_on _ _ _ s1 s2 ends)
+cause_of Say words a b d left before after text line found ends asks stored whole due d1 d2 s1 s2 = rises_on _ _ _ s1 s2 ends
 cause_of Memory words a b d left before after text line found ends asks stored whole due d1 d2 s1 s2 = inl (line, asks)
 cause_of Usage words a b d left before after text line found ends asks stored whole due d1 d2 s1 s2 = absurd ends
 cause_of Source words a b d left before after text line found ends asks stored whole due d1 d2 s1 s2 = absurd ends

@@ -61,8 +61,7 @@ HasCause AtError words old new left before after =
 HasCause Usage words old new left before after = asked words ≡ None
 HasCause Disk words old new left before after = IsLine words × Rises old.disk_faults new.disk_faults
 HasCause Source words old new left before after = IsLine words × IsStored old × Rises before after
-HasCause Say words old new left before after =
-    (IsLine words → IsStored old) × Rises old.say_faults new.say_faults
+HasCause Say words old new left before after = Rises old.say_faults new.say_faults
 HasCause Damaged words old new left before after =
     IsLine words × (old.told → (damage : Damage) × (opens old.seen ≡ Err damage))
 HasCause Refused words old new left before after =
@@ -109,8 +108,13 @@ AttachesStore None ending old new = AttachesNone old new
 AttachesStore (Some line) ending old new =
     Attaches line.store old new ⊎ ((ending ≡ Memory) × AttachesNone old new)
 
+-- a run that reaches no script may end so
+abbrev pub IsEarly : Ending → Type 0
+IsEarly ending =
+    (ending ≡ Disk) ⊎ ((ending ≡ Damaged) ⊎ ((ending ≡ Say) ⊎ (ending ≡ Memory)))
+
 -- the line's script alone; or none, where the run ended before
 abbrev pub AttachesScript : Option Asked → Ending → (old new : List (List ℕ) → Type 0) → Type 0
 AttachesScript None ending old new = AttachesNone old new
 AttachesScript (Some line) ending old new = Attaches line.script old new
-    ⊎ (((ending ≡ Disk) ⊎ ((ending ≡ Damaged) ⊎ (ending ≡ Memory))) × AttachesNone old new)
+    ⊎ (IsEarly ending × AttachesNone old new)

@@ -18,7 +18,7 @@ pub enum Ending {
     Source,
     /// Printing failed.
     Say,
-    /// The store is malformed.
+    /// The store is malformed. The line that says where is printed.
     Damaged,
     /// The script is longer than 16 MiB, isn't UTF-8 or has a zero byte.
     Refused,

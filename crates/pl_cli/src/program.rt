@@ -2,19 +2,19 @@
 
 ghost use Rattle.std.specs.Prelude.{◌≡◌, ◌⊎◌, ◌++◌, List, ℕ, map, [], Some, None, Ok, Err, IfOk, IfErr, string_bytes};
 ghost use Rattle.pl_disk.specs.Disk.{Continues, Runs, Settled, Untouched, with_attached};
-ghost use Rattle.pl_keeper.specs.Batches.{Damage};
+ghost use Rattle.pl_keeper.specs.Batches.{Damage, spare_area};
 ghost use Rattle.pl_meaning.specs.Database.{Database};
 ghost use Rattle.pl_meaning.specs.Opening.{opens};
 ghost use Rattle.pl_meaning.specs.Trace.{Event};
-ghost use Rattle.pl_session.specs.AreaB.{KeepsAreaB};
 ghost use Rattle.pl_session.specs.Endings.{Done, OfTrace, PrintsWhole, RunsAlong};
+ghost use Rattle.pl_session.specs.Spare.{KeepsArea, spare_in};
 ghost use Rattle.pl_session.specs.Starts.{HasStartCause, IsStarted, OpensSame, StartPair};
 ghost use Rattle.pl_session.specs.State.{IsReady, database_in};
 ghost use Rattle.pl_cli.specs.Covers.{CoveredRun};
 ghost use Rattle.pl_cli.specs.Endings.{status_of};
 ghost use Rattle.pl_cli.specs.Line.{asked};
 ghost use Rattle.pl_cli.specs.Parts.{SaysLast, ScriptEnd};
-ghost use Rattle.pl_cli.specs.Printed.{refusal_line, usage_line};
+ghost use Rattle.pl_cli.specs.Printed.{damage_line, refusal_line, usage_line};
 ghost use Rattle.pl_cli.specs.Runs.{AttachesScript, AttachesStore, HasCause, IsBetween, IsLine, OnlySays, Over};
 ghost use Rattle.pl_cli.specs.Script.{script_text};
 ghost use Rattle.pl_cli.specs.declared.ending.Ending.TheVariants as end;
@@ -22,7 +22,7 @@ ghost use Rattle.pl_cli.specs.declared.ending.Ending.TheVariants as end;
 use crate::ending::Ending;
 use crate::line::{WordsFail, read_words};
 use crate::reading::{ReadFail, read_script, without_mark};
-use pl_disk::{Host, Source};
+use pl_disk::{Area, Host, Source};
 use pl_session::{Ended, Halt, SessionState, StartFail, Stop};
 use std::alloc::{AllocError, Global};
 
@@ -58,6 +58,26 @@ fn say_last<H: Host>(host: &mut H, line: &[u8], ending: Ending) -> Ending
     }
 }
 
+fn damage_line(alloc: Global, area: Area, at: u64) -> Result<String, AllocError>
+    ensures { IfOk result (λ line. string_bytes line ≡ damage_line area at) }
+{
+    match area {
+        Area::A => format!(in alloc; "plpg: store damaged in area A at byte {at}\n"),
+        Area::B => format!(in alloc; "plpg: store damaged in area B at byte {at}\n"),
+    }
+}
+
+// Says where a store is damaged. For want of memory nothing is done.
+fn say_damage<H: Host>(alloc: Global, host: &mut H, area: Area, at: u64) -> Ending
+    ensures { SaysLast (damage_line area at) end.Damaged (H.view host.old) (H.view host.new) result
+        ⊎ ((result ≡ end.Memory) × (host.new ≡ host.old)) }
+{
+    match damage_line(alloc, area, at) {
+        Ok(line) => say_last(host, line.as_bytes(), Ending::Damaged),
+        Err(_) => Ending::Memory,
+    }
+}
+
 fn refusal_line(alloc: Global, at: u64) -> Result<String, AllocError>
     ensures { IfOk result (λ line. string_bytes line ≡ refusal_line at) }
 {
@@ -88,7 +108,8 @@ fn start<H: Host>(alloc: Global, host: &mut H, store: &str) -> Result<SessionSta
     ensures untouched { (H.view host.old).told → (damage : Damage)
         → opens (H.view host.old).seen ≡ Err damage
         → Untouched (H.view host.old) (H.view host.new) }
-    ensures area_b { (H.view host.old).told → KeepsAreaB (H.view host.old) (H.view host.new) }
+    ensures spare { (H.view host.old).told → KeepsArea (spare_area (H.view host.old).seen)
+        (H.view host.old) (H.view host.new) }
 {
     if host.attach(store).is_err() {
         return Err(StartFail::Disk);
@@ -109,7 +130,8 @@ fn run_commands<H: Host>(
         (λ events. RunsAlong (H.view host.old) (H.view host.new) events (database_in state.old)) }
     ensures ended { ScriptEnd result (H.view host.old) (H.view host.new) script.now stops
         (database_in state.old) }
-    ensures area_b { (H.view host.old).told → KeepsAreaB (H.view host.old) (H.view host.new) }
+    ensures spare { (H.view host.old).told
+        → KeepsArea (spare_in state.old) (H.view host.old) (H.view host.new) }
 {
     match state.run_script(host, script, stops) {
         Ok(Ended::Whole) => Ending::Whole,
@@ -173,23 +195,29 @@ pub fn run<H: Host, S: Source>(
     ensures source { result.ending ≡ end.Source → (db : Database) → (H.view host.old).told
         → opens (H.view host.old).seen ≡ Ok db → Done (H.view host.old) (H.view host.new) [] db }
 
-    // 7: nothing is printed. A damaged store stays as it is, however the run ends.
-    ensures damaged { IsLine (map string_bytes words.now) → (H.view host.old).told
+    // 7: the line of the first malformed place is printed. A damaged store stays as it is, however
+    // the run ends.
+    ensures damaged { result.ending ≡ end.Damaged → (H.view host.old).told
         → (damage : Damage) → opens (H.view host.old).seen ≡ Err damage
-        → OnlySays [] (H.view host.old) (H.view host.new) }
+        → (H.view host.new).printed ≡ (H.view host.old).printed
+        ++ damage_line damage.area damage.at }
+    ensures damaged_store { IsLine (map string_bytes words.now) → (H.view host.old).told
+        → (damage : Damage) → opens (H.view host.old).seen ≡ Err damage
+        → OnlySays (damage_line damage.area damage.at) (H.view host.old) (H.view host.new) }
 
     // 9: it stopped between two commands.
     ensures memory { result.ending ≡ end.Memory → (db : Database) (events : List Event)
         → (over : Over (map string_bytes words.now) (H.view host.old) (S.left source.old) db events)
         → IsBetween over (H.view host.new) }
 
-    // The store and the script that are attached are those that the words name, and no others. Area B
-    // stays as it is.
+    // The store and the script that are attached are those that the words name, and no others. The
+    // area that doesn't count stays as it is.
     ensures store { AttachesStore (asked (map string_bytes words.now)) result.ending
         (H.view host.old).attached (H.view host.new).attached }
     ensures script { AttachesScript (asked (map string_bytes words.now)) result.ending
         (S.attached source.old) (S.attached source.new) }
-    ensures area_b { (H.view host.old).told → KeepsAreaB (H.view host.old) (H.view host.new) }
+    ensures spare { (H.view host.old).told → KeepsArea (spare_area (H.view host.old).seen)
+        (H.view host.old) (H.view host.new) }
 {
     let line = match read_words(alloc, words) {
         Ok(line) => line,
@@ -199,7 +227,9 @@ pub fn run<H: Host, S: Source>(
     let mut state = match start(alloc, host, line.store) {
         Ok(state) => state,
         Err(StartFail::Disk) => return Finish::of(Ending::Disk),
-        Err(StartFail::Damaged { .. }) => return Finish::of(Ending::Damaged),
+        Err(StartFail::Damaged { area, at }) => {
+            return Finish::of(say_damage(alloc, host, area, at));
+        }
         Err(StartFail::Memory) => return Finish::of(Ending::Memory),
     };
     let script = match read_script(alloc, source, line.script) {

@@ -1,4 +1,3 @@
-pub mod Spelled
 pub mod ReadsBack
 pub mod ReadSoFar
 pub mod Pushed

@@ -6,7 +6,7 @@ use Rattle.std.proofs.lemmas.Grind.{flat_map-append}
 use Rattle.std.proofs.lemmas.List.{append-nil}
 use Rattle.pl_base.specs.declared.operation.Op.{Op}
 use Rattle.pl_base.specs.declared.value.Value.{Value}
-use Rattle.pl_codec.specs.Payload.{op_bytes, is_stored_op}
+use Rattle.pl_codec.specs.Spelling.{op_bytes, is_stored_op}
 use Rattle.pl_codec.specs.Reading.{Front, value_front, values_front, op_front, ops_within, operations_of}
 use Rattle.pl_codec.proofs.ReadsBack.{kind_of, within_step}
 

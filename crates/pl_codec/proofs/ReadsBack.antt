@@ -6,14 +6,13 @@ use Rattle.std.specs.List.{flat_map}
 use Rattle.std.proofs.lemmas.Nat.{from_be_bytes-to_be_bytes_4, from_be_bytes-to_be_bytes_8}
 use Rattle.std.proofs.lemmas.Bool.Decides.{nat_tests}
 use Rattle.std.proofs.lemmas.Int.{to_z-of_z}
-use Rattle.std.proofs.lemmas.List.{take_at, drop_at}
+use Rattle.std.proofs.lemmas.List.{take_at, drop_at, append-nil}
 use Rattle.std.proofs.Math.Facts.{Fits-of_z}
 use Rattle.pl_base.specs.declared.operation.Op.{Op}
 use Rattle.pl_base.specs.declared.operation.Op.TheVariants.{Define, Put, Remove, Next}
 use Rattle.pl_base.specs.declared.value.Value.{Value}
 use Rattle.pl_base.specs.declared.value.Value.TheVariants as value
-use Rattle.pl_codec.specs.Spelling.{is_text, is_define_text, is_table_name, is_row_id}
-use Rattle.pl_codec.specs.Payload.{text_bytes, name_bytes, value_bytes, op_bytes, ops_bytes}
+use Rattle.pl_codec.specs.Spelling.{is_text, is_define_text, is_table_name, is_row_id, text_bytes, name_bytes, value_bytes, op_bytes, ops_bytes}
 use Rattle.pl_codec.specs.Reading.{Front, byte_front, bytes_front, front_32, front_64, row_id_front, text_front, name_front, value_front, values_front, op_front, ops_within, operations_of}
 use Rattle.pl_codec.specs.ReadBack.{ValueReadsBack, ValuesReadBack, OpReadsBack}
 
@@ -212,3 +211,6 @@ ops_back (op ∷ ops) each (suc more) few =
 pub all_back : (ops : List Op) → EachOp ops → operations_of (ops_bytes ops) ≡ Some ops
 unfolding operations_of
 all_back ops each = ops_back ops each (length (ops_bytes ops)) (omega arith)
+
+pub one_back : (op : Op) → OpReadsBack op → operations_of (op_bytes op) ≡ Some (op ∷ [])
+one_back op is = ap operations_of (sym (append-nil (op_bytes op))) ∙ all_back (op ∷ []) (is, tt)

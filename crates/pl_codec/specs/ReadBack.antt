@@ -3,7 +3,7 @@ use Rattle.std.specs.Prelude.{◌≡◌, ℕ, List, ◌++◌, length, Some}
 use Rattle.std.specs.List.{flat_map}
 use Rattle.pl_base.specs.declared.operation.Op.{Op}
 use Rattle.pl_base.specs.declared.value.Value.{Value}
-use Rattle.pl_codec.specs.Payload.{value_bytes, op_bytes}
+use Rattle.pl_codec.specs.Spelling.{value_bytes, op_bytes}
 use Rattle.pl_codec.specs.Reading.{value_front, values_front, op_front}
 
 abbrev pub ValueReadsBack : Value → Type 0

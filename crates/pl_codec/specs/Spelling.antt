@@ -1,12 +1,13 @@
--- The operations as the bytes of a payload. Numbers are big-endian. So far a payload holds one operation: a Define, or a Put of one
--- integer.
-use Rattle.std.specs.Prelude.{◌≡◌, ◌==◌, ◌&&◌, ℕ, ℤ, ◌+◌, ◌^◌, List, [], ◌∷◌, ◌++◌, length, take, drop, Option, Some, None, not, Bool, true, nat_lt, nat_le, slice_index, if◌then◌else◌}
-use Rattle.std.specs.Int.{to_be_bytes, from_be_bytes, w32, w64, cast_unsigned, cast_signed}
-use Rattle.std.specs.List.{list_all}
+-- The operations of a commit as the bytes of a payload: their spellings, one behind the other.
+-- Numbers are big-endian.
+use Rattle.std.specs.Prelude.{◌==◌, ◌&&◌, ℕ, ◌^◌, List, [], ◌∷◌, ◌++◌, length, not, Bool, true, false, nat_lt, nat_le, if◌then◌else◌}
+use Rattle.std.specs.Int.{to_be_bytes, w32, w64, cast_unsigned}
+use Rattle.std.specs.List.{list_all, flat_map}
 use Rattle.std.specs.Str.{is_utf8}
 use Rattle.pl_base.specs.declared.operation.Op.{Op}
-use Rattle.pl_base.specs.declared.operation.Op.TheVariants.{Define, Put}
-use Rattle.pl_base.specs.declared.value.Value.TheVariants as value
+use Rattle.pl_base.specs.declared.operation.Op.TheVariants.{Define, Put, Remove, Next}
+use Rattle.pl_base.specs.declared.value.Value.{Value, Row'}
+use Rattle.pl_base.specs.declared.value.Value.TheVariants.{Null, Int, Big, Text, Bool as Truth}
 
 -- UTF-8 without a zero byte
 abbrev pub is_text : List ℕ → Bool
@@ -22,47 +23,53 @@ is_table_name name = is_text name && nat_lt 0 (length name) && nat_le (length na
 abbrev pub is_row_id : ℕ → Bool
 is_row_id id = nat_lt 0 id && nat_lt id (2 ^ 63)
 
--- a Define is 1, the text's length in 4 bytes, the text
-abbrev pub define_bytes : List ℕ → List ℕ
-define_bytes text = 1 ∷ (to_be_bytes w32 (length text) ++ text)
+-- a text behind its length in 4 bytes
+abbrev pub text_bytes : List ℕ → List ℕ
+text_bytes text = to_be_bytes w32 (length text) ++ text
 
--- a Put is 2, the length of the table's name in a byte, the name, the row id in 8 bytes, the number of values in a byte, and the
--- values, of which an integer is 1 and 4 bytes
-abbrev pub put_bytes : List ℕ → ℕ → ℤ → List ℕ
-put_bytes name id number = 2 ∷ length name ∷ (name ++ (to_be_bytes w64 id ++ (1 ∷ 1 ∷ to_be_bytes w32 (cast_unsigned w32 number))))
+-- a name behind its length in a byte
+abbrev pub name_bytes : List ℕ → List ℕ
+name_bytes name = length name ∷ name
 
--- the operation behind a 1, if these bytes are the rest of a Define
-abbrev pub read_define : List ℕ → Option Op
-read_define rest =
-    let text = drop 4 rest in
-    if nat_le 4 (length rest) && length text == from_be_bytes w32 (take 4 rest) && is_text text then Some (Define text) else None
+-- A value is its kind and what the kind asks for. A row value has no spelling: no column has such a
+-- type.
+abbrev pub value_bytes : Value → List ℕ
+value_bytes Null = 0 ∷ []
+value_bytes (Int number) = 1 ∷ to_be_bytes w32 (cast_unsigned w32 number)
+value_bytes (Big number) = 2 ∷ to_be_bytes w64 (cast_unsigned w64 number)
+value_bytes (Text text) = 3 ∷ text_bytes text
+value_bytes (Truth truth) = 4 ∷ (if truth then 1 else 0) ∷ []
+value_bytes (Row' shape fields) = []
 
--- the Put into the table of this name, if it and the 14 bytes behind it spell one
-abbrev pub read_row : List ℕ → List ℕ → Option Op
-read_row name tail =
-    let id = from_be_bytes w64 (take 8 tail) in
-    if is_table_name name && is_row_id id && slice_index tail 8 == 1 && slice_index tail 9 == 1
-    then Some (Put name id (value.Int (cast_signed w32 (from_be_bytes w32 (drop 10 tail))) ∷ []))
-    else None
+-- the value has a spelling: a text is UTF-8 without a zero byte, whose length has 4 bytes
+abbrev pub is_stored_value : Value → Bool
+is_stored_value Null = true
+is_stored_value (Int number) = true
+is_stored_value (Big number) = true
+is_stored_value (Text text) = is_define_text text
+is_stored_value (Truth truth) = true
+is_stored_value (Row' shape fields) = false
 
--- the operation behind a 2, if these bytes are the rest of a Put
-abbrev pub read_put : List ℕ → Option Op
-read_put [] = None
-read_put (size ∷ rest) = if length rest == size + 14 then read_row (take size rest) (drop size rest) else None
+-- An operation is its kind and what the kind asks for. The number of a row's values is a byte.
+abbrev pub op_bytes : Op → List ℕ
+op_bytes (Define text) = 1 ∷ text_bytes text
+op_bytes (Put table id row) =
+    2 ∷ (name_bytes table ++ (to_be_bytes w64 id ++ length row ∷ flat_map value_bytes row))
+op_bytes (Remove table id) = 3 ∷ (name_bytes table ++ to_be_bytes w64 id)
+op_bytes (Next table next) = 4 ∷ (name_bytes table ++ to_be_bytes w64 next)
 
--- the operation that a whole payload spells, if it spells one
-unfoldable pub operation_of : List ℕ → Option Op
-operation_of [] = None
-operation_of (kind ∷ rest) = if kind == 1 then read_define rest else (if kind == 2 then read_put rest else None)
+-- the operation has a spelling
+abbrev pub is_stored_op : Op → Bool
+is_stored_op (Define text) = is_define_text text
+is_stored_op (Put table id row) =
+    is_table_name table && is_row_id id && nat_lt (length row) 256 && list_all is_stored_value row
+is_stored_op (Remove table id) = is_table_name table
+is_stored_op (Next table next) = is_table_name table
 
--- what a commit can store so far: a Define, or a Put of one integer (which has 32 bits)
-abbrev pub HasSpelling : Op → Type 0
-HasSpelling (Define text) = is_define_text text ≡ true
-HasSpelling (Put name id (value.Int number ∷ [])) = (is_table_name name ≡ true) × (is_row_id id ≡ true)
-HasSpelling op = ⊥
+-- the payload of these operations
+abbrev pub ops_bytes : List Op → List ℕ
+ops_bytes ops = flat_map op_bytes ops
 
--- the payload of an operation that has a spelling
-abbrev pub payload_of : Op → List ℕ
-payload_of (Define text) = define_bytes text
-payload_of (Put name id (value.Int number ∷ [])) = put_bytes name id number
-payload_of op = []
+-- each of them has a spelling
+abbrev pub are_stored : List Op → Bool
+are_stored ops = list_all is_stored_op ops

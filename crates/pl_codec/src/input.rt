@@ -3,8 +3,7 @@
 ghost use Rattle.std.specs.Prelude.{◌≡◌, ◌∷◌, ◌++◌, length, IfSome};
 ghost use Rattle.std.specs.Int.{to_be_bytes, from_be_bytes, w32, w64};
 ghost use Rattle.std.specs.Option.{option_copied};
-ghost use Rattle.pl_codec.specs.Spelling.{is_define_text, is_table_name, is_row_id};
-ghost use Rattle.pl_codec.specs.Payload.{text_bytes, name_bytes};
+ghost use Rattle.pl_codec.specs.Spelling.{is_define_text, is_table_name, is_row_id, text_bytes, name_bytes};
 ghost use Rattle.pl_codec.specs.Reading.{byte_front, bytes_front, front_32, front_64, row_id_front, text_front, name_front};
 ghost use Rattle.pl_codec.specs.Reads.{Reads, Takes};
 

@@ -1,7 +1,7 @@
 //! From a payload to its operations.
 
 ghost use Rattle.std.specs.Prelude.{◌≡◌, ◌∷◌, true, option_map, IfOk, IfSome};
-ghost use Rattle.pl_codec.specs.Payload.{op_bytes, is_stored_op, ops_bytes, are_stored};
+ghost use Rattle.pl_codec.specs.Spelling.{op_bytes, is_stored_op, ops_bytes, are_stored};
 ghost use Rattle.pl_codec.specs.Reading.{define_front, put_front, remove_front, next_front, op_front, operations_of};
 ghost use Rattle.pl_codec.specs.Reads.{Reads, Takes};
 

@@ -1,11 +1,10 @@
 //! From operations to their payload.
 
-ghost use Rattle.std.specs.Prelude.{◌≡◌, ◌<◌, ◌++◌, true, length, Some, IfOk, OnOk};
+ghost use Rattle.std.specs.Prelude.{◌≡◌, ◌<◌, ◌++◌, ◌∷◌, [], true, length, Some, IfOk, OnOk};
 ghost use Rattle.std.specs.List.{flat_map, list_all};
 ghost use Rattle.pl_base.specs.declared.operation.Op.TheVariants.{Define, Put, Remove, Next};
 ghost use Rattle.pl_base.specs.declared.value.Value.TheVariants as value;
-ghost use Rattle.pl_codec.specs.Spelling.{is_define_text, is_table_name, is_row_id};
-ghost use Rattle.pl_codec.specs.Payload.{text_bytes, name_bytes, value_bytes, is_stored_value, op_bytes, is_stored_op, ops_bytes, are_stored};
+ghost use Rattle.pl_codec.specs.Spelling.{is_define_text, is_table_name, is_row_id, text_bytes, name_bytes, value_bytes, is_stored_value, op_bytes, is_stored_op, ops_bytes, are_stored};
 ghost use Rattle.pl_codec.specs.Reading.{operations_of};
 ghost use Rattle.pl_codec.specs.ReadBack.{ValueReadsBack, ValuesReadBack, OpReadsBack};
 
@@ -22,6 +21,17 @@ pub fn encode_all(alloc: Global, ops: &[Op]) -> Result<Bytes, AllocError>
     for op in ops {
         push_op(&mut bytes, op)?;
     }
+    Ok(List::from_vec(bytes))
+}
+
+/// The payload of one operation.
+pub fn encode(alloc: Global, op: &Op) -> Result<Bytes, AllocError>
+    requires { is_stored_op op.now ≡ true }
+    ensures spelled { IfOk result (λ payload. payload ≡ op_bytes op.now) }
+    ensures read_back { IfOk result (λ payload. operations_of payload ≡ Some (op.now ∷ [])) }
+{
+    let mut bytes = Vec::new(alloc);
+    push_op(&mut bytes, op)?;
     Ok(List::from_vec(bytes))
 }
 

@@ -2,7 +2,7 @@
 
 ghost use Rattle.std.specs.Prelude.{◌≡◌, ◌∷◌, length, IfOk, IfSome};
 ghost use Rattle.std.specs.List.{flat_map, list_all};
-ghost use Rattle.pl_codec.specs.Payload.{value_bytes, is_stored_value};
+ghost use Rattle.pl_codec.specs.Spelling.{value_bytes, is_stored_value};
 ghost use Rattle.pl_codec.specs.Reading.{int_front, big_front, truth_front, text_value_front, value_front, values_front};
 ghost use Rattle.pl_codec.specs.Reads.{Reads, Takes};
 

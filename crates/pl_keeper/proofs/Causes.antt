@@ -1,5 +1,5 @@
 -- Why a call fails, where it hands on the failure of one that it made.
-use Rattle.std.proofs.Common.{◌≡◌, ◌<◌, ◌≤◌, ◌-◌, ◌^◌, ◌⊎◌, ⊎_elim, ℕ, arith, Result, Ok, Err, sym, subst}
+use Rattle.std.proofs.Common.{◌≡◌, ◌<◌, ◌≤◌, ◌-◌, ◌^◌, ◌⊎◌, ⊎_elim, ℕ, arith, Result, Ok, Err, refl, sym, subst}
 use Rattle.std.specs.Prelude.{IfErr}
 use Rattle.std.specs.Result.{IsErrAnd}
 use Rattle.pl_base.specs.declared.area.Area.{Area}
@@ -28,3 +28,11 @@ handed_on D E a b a' b' r e is damage before during after was =
     rises_more m n m' n' before during after rises below =
         let far : (m < 2 ^ 64 - 1) ⊎ (2 ^ 64 - 1 ≤ m) = grind arith in
         ⊎_elim (λ near. let more : m < n = rises near in omega arith) (λ full. omega arith) far
+
+-- the same of an answer that is given on
+pub kept : {T : Type 0} (D E : Area → ℕ → Type 0) (a b a' b' : View) (r : Result T FrameFail) → ((area : Area) (at : ℕ) → D area at → E area at)
+    → a'.disk_faults ≤ a.disk_faults → a.disk_faults ≤ b.disk_faults → b.disk_faults ≤ b'.disk_faults → IfErr r (HasCause D a b) → IfErr r (HasCause E a' b')
+kept D E a b a' b' (Ok x) damage before during after was = tt
+kept {T} D E a b a' b' (Err e) damage before during after was =
+    let fails : FrameFail → Result T FrameFail = λ x. Err x in
+    handed_on D E a b a' b' (fails e) e refl damage before during after was

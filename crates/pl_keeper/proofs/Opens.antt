@@ -1,128 +1,177 @@
 -- The batches of two files, by their form.
-use Rattle.std.proofs.Common.{◌≡◌, ◌<◌, ◌≤◌, ⊎_elim, ℕ, List, [], ◌∷◌, ◌++◌, length, take, drop, Bool, true, false, nat_eq, if◌then◌else◌, Result, Ok, Err, refl, sym, ◌∙◌, ap, arith, length-append}
+use Rattle.std.proofs.Common.{◌≡◌, ◌<◌, ◌≤◌, ◌==◌, ℕ, List, [], ◌∷◌, ◌++◌, length, take, drop, Bool, true, false, cond, nat_eq, nat_lt, Option, Some, None, Result, Ok, Err, refl, sym, ◌∙◌, ap, arith, length-append, length-drop}
 use Rattle.std.specs.Cmp.Lexicographic.{pointwise}
-use Rattle.std.specs.Int.{to_be_bytes, w64}
-use Rattle.std.proofs.lemmas.List.{take-append-le}
+use Rattle.std.specs.Int.{to_be_bytes, from_be_bytes, w64}
+use Rattle.std.proofs.lemmas.List.{take-append-le, drop-append-le}
 use Rattle.std.proofs.lemmas.Bool.Decides.{nat_tests}
-use Rattle.pl_base.specs.Image.{Image}
+use Rattle.pl_base.specs.Image.{Image, file, other}
+use Rattle.pl_base.specs.declared.area.Area.{Area}
 use Rattle.pl_base.specs.declared.area.Area.TheVariants.{A, B}
-use Rattle.pl_codec.specs.Spelling.{operation_of}
+use Rattle.pl_codec.specs.Reading.{operations_of}
 use Rattle.pl_frames.specs.Format.{Frames, frames_from, is_open, has_header, magic}
 use Rattle.pl_frames.specs.Header.{Laid}
 use Rattle.pl_frames.specs.Lent.{frames_read}
-use Rattle.pl_keeper.specs.Batches.{Stored, area_batches, beside, batches}
+use Rattle.pl_keeper.specs.Batches.{Stored, Log, Damage, generation_in, by_headers, counting, logged, log_in, batches}
 use Rattle.pl_keeper.specs.Reading.{AreRead}
-use Rattle.pl_keeper.specs.Store.{Has, IsUsed, all_stored}
+use Rattle.pl_keeper.specs.Store.{Has, all_stored}
 use Rattle.pl_keeper.specs.declared.opening.Found.{Found}
 
--- one file
-closed_area : (file : List ℕ) → is_open file ≡ false → area_batches file ≡ Ok []
+-- ---- one file
+
+pub closed_area : (file : List ℕ) → is_open file ≡ false → generation_in file ≡ Ok None
 closed_area file closed = rw closed refl
 
-headless_area : (file : List ℕ) → is_open file ≡ true → has_header file ≡ false → area_batches file ≡ Err 0
+pub headless_area : (file : List ℕ) → is_open file ≡ true → has_header file ≡ false → generation_in file ≡ Err 0
 headless_area file is_open none = rw (is_open, none) refl
 
-framed_area : (file : List ℕ) (r : Result (List Stored) ℕ) → is_open file ≡ true → has_header file ≡ true → frames_from operation_of (length file) file 17 ≡ r → area_batches file ≡ r
-framed_area file r is_open has is = rw (is_open, has) is
+pub headed_area : (file : List ℕ) (generation : ℕ) → is_open file ≡ true → has_header file ≡ true → generation ≡ from_be_bytes w64 (take 8 (drop 9 file)) → generation_in file ≡ Ok (Some generation)
+headed_area file generation is_open has is = rw (is_open, has) (ap (λ (n : ℕ). let r : Result (Option ℕ) ℕ = Ok (Some n) in r) (sym is))
 
--- both
-of_areas : (c : Image) (r : Result (List Stored) ℕ) (b : Bool) → area_batches c.a ≡ r → is_open c.b ≡ b → batches c ≡ beside r b
-unfolding batches
-of_areas c r b is_a is_b = (λ i. beside (is_a i) (is_b i))
-
-pub none_stored : (c : Image) → is_open c.a ≡ false → is_open c.b ≡ false → batches c ≡ Ok []
-none_stored c closed_a closed_b = of_areas c (Ok []) false (closed_area c.a closed_a) closed_b
-
-pub not_used : (c : Image) → is_open c.a ≡ false → is_open c.b ≡ false → IsUsed c → ⊥
-not_used c closed_a closed_b used =
-    ⊎_elim (λ opened. (let no : true ≡ false = sym opened ∙ closed_a in cc)) (λ stored. stored (none_stored c closed_a closed_b)) used
-
-pub headless : (c : Image) → is_open c.a ≡ true → has_header c.a ≡ false → batches c ≡ Err (record { area = A; at = 0 })
-headless c opened none = of_areas c (Err 0) (is_open c.b) (headless_area c.a opened none) refl
-
-pub malformed : (c : Image) (at : ℕ) → is_open c.a ≡ true → has_header c.a ≡ true → frames_from operation_of (length c.a) c.a 17 ≡ Err at → batches c ≡ Err (record { area = A; at = at })
-malformed c at opened has is = of_areas c (Err at) (is_open c.b) (framed_area c.a (Err at) opened has is) refl
-
-pub beside_nothing : (c : Image) → is_open c.a ≡ false → is_open c.b ≡ true → batches c ≡ Err (record { area = B; at = 0 })
-beside_nothing c closed_a open_b = of_areas c (Ok []) true (closed_area c.a closed_a) open_b
-
-pub beside_frames : (c : Image) (list : List Stored) → is_open c.a ≡ true → has_header c.a ≡ true → frames_from operation_of (length c.a) c.a 17 ≡ Ok list → is_open c.b ≡ true → batches c ≡ Err (record { area = B; at = 0 })
-beside_frames c list opened has is open_b = of_areas c (Ok list) true (framed_area c.a (Ok list) opened has is) open_b
-
-pub framed : (c : Image) (list : List Stored) → is_open c.a ≡ true → has_header c.a ≡ true → frames_from operation_of (length c.a) c.a 17 ≡ Ok list → is_open c.b ≡ false → batches c ≡ Ok list
-framed c list opened has is closed_b = of_areas c (Ok list) false (framed_area c.a (Ok list) opened has is) closed_b
-
--- what batches say of the areas
-pub of_batches : (c : Image) (list : List Stored) → batches c ≡ Ok list → is_open c.a ≡ true → (has_header c.a ≡ true) × (frames_from operation_of (length c.a) c.a 17 ≡ Ok list) × (is_open c.b ≡ false)
-unfolding batches
-of_batches c list is opened = by_header (has_header c.a) (is_open c.b) refl refl (sym at_area ∙ is)
+-- an area with a generation is open and has a header
+pub is_headed : (file : List ℕ) (generation : ℕ) → generation_in file ≡ Ok (Some generation) → (is_open file ≡ true) × (has_header file ≡ true)
+is_headed file generation is = by_tests (is_open file) (has_header file) refl refl is
   where
-    frames : Result (List Stored) ℕ
-    frames = frames_from operation_of (length c.a) c.a 17
+    by_tests : (o h : Bool) → is_open file ≡ o → has_header file ≡ h → (let r : Result (Option ℕ) ℕ = cond o (cond h (Ok (Some (from_be_bytes w64 (take 8 (drop 9 file))))) (Err 0)) (Ok None) in r) ≡ Ok (Some generation) → (is_open file ≡ true) × (has_header file ≡ true)
+    by_tests true true opened has h = (opened, has)
+    by_tests true false opened has h = absurd (cc)
+    by_tests false has opened is_has h = absurd (cc)
 
-    at_area : beside (area_batches c.a) (is_open c.b) ≡ beside (let r : Result (List Stored) ℕ = if has_header c.a then frames else Err 0 in r) (is_open c.b)
-    at_area = rw opened refl
+-- ---- both
 
-    within : (r : Result (List Stored) ℕ) (b : Bool) → beside r b ≡ Ok list → (r ≡ Ok list) × (b ≡ false)
-    within (Err at) b h = absurd (cc)
-    within (Ok xs) true h = absurd (cc)
-    within (Ok xs) false h = ((let same : xs ≡ list = cc in ap (λ (l : List Stored). let r : Result (List Stored) ℕ = Ok l in r) same), refl)
+pub both_closed : (c : Image) → is_open c.a ≡ false → is_open c.b ≡ false → counting c ≡ Ok None
+both_closed c shut_a shut_b = λ i. by_headers (closed_area c.a shut_a i) (closed_area c.b shut_b i)
 
-    by_header : (h b : Bool) → has_header c.a ≡ h → is_open c.b ≡ b → beside (let r : Result (List Stored) ℕ = if has_header c.a then frames else Err 0 in r) (is_open c.b) ≡ Ok list
-        → (has_header c.a ≡ true) × (frames ≡ Ok list) × (is_open c.b ≡ false)
-    by_header true b has is_b h = let both = within frames (is_open c.b) ((rw has at h)) in (has, both.0, both.1)
-    by_header false b has is_b h = absurd (let both = within (Err 0) (is_open c.b) (rw has at h) in cc)
+-- an area of no generation is closed
+is_closed : (file : List ℕ) → generation_in file ≡ Ok None → is_open file ≡ false
+is_closed file is = by_tests (is_open file) (has_header file) refl is
+  where
+    by_tests : (o h : Bool) → is_open file ≡ o → (let r : Result (Option ℕ) ℕ = cond o (cond h (Ok (Some (from_be_bytes w64 (take 8 (drop 9 file))))) (Err 0)) (Ok None) in r) ≡ Ok None → is_open file ≡ false
+    by_tests true true opened h = absurd (cc)
+    by_tests true false opened h = absurd (cc)
+    by_tests false has shut h = shut
 
--- an open area whose frames were read
-pub has_read : (c : Image) (read : Found) → is_open c.a ≡ true → has_header c.a ≡ true → AreRead c.a read → is_open c.b ≡ false → Has (all_stored read.batches.items) read.end c
-has_read c read opened has is closed_b = record {
-  batches = framed c (all_stored read.batches.items) opened has is.read closed_b;
-  opened = opened;
-  head = take 17 c.a;
+pub none_open : (c : Image) → counting c ≡ Ok None → (is_open c.a ≡ false) × (is_open c.b ≡ false)
+none_open c is = by_both (generation_in c.a) (generation_in c.b) refl refl is
+  where
+    by_order : (a b : ℕ) (e : Bool) → (let r : Result (Option Area) Damage = cond e (Err (record { area = B; at = 9 })) (Ok (Some (cond (nat_lt a b) B A))) in r) ≡ Ok None → ⊥
+    by_order a b true h = cc
+    by_order a b false h = cc
+
+    by_both : (a b : Result (Option ℕ) ℕ) → generation_in c.a ≡ a → generation_in c.b ≡ b → by_headers a b ≡ Ok None → (is_open c.a ≡ false) × (is_open c.b ≡ false)
+    by_both (Err at) b is_a is_b h = absurd (cc)
+    by_both (Ok a) (Err at) is_a is_b h = absurd (cc)
+    by_both (Ok None) (Ok None) is_a is_b h = (is_closed c.a is_a, is_closed c.b is_b)
+    by_both (Ok (Some a)) (Ok None) is_a is_b h = absurd (cc)
+    by_both (Ok None) (Ok (Some b)) is_a is_b h = absurd (cc)
+    by_both (Ok (Some a)) (Ok (Some b)) is_a is_b h = absurd (by_order a b (a == b) h)
+
+pub misheaded : (c : Image) (damage : Damage) → counting c ≡ Err damage → batches c ≡ Err damage
+unfolding batches
+misheaded c damage is = ap (λ (r : Result (Option Area) Damage). log_in c r) is
+
+pub framed : (c : Image) (area : Area) (r : Result (List Stored) ℕ) → counting c ≡ Ok (Some area) → frames_from operations_of (length (file area c)) (file area c) 17 ≡ r → batches c ≡ logged area r
+unfolding batches
+framed c area r counts is = ap (λ (r : Result (Option Area) Damage). log_in c r) counts ∙ ap (λ (r : Result (List Stored) ℕ). logged area r) is
+
+list_in : Result Log Damage → List Stored
+list_in (Ok log) = log.list
+list_in (Err damage) = []
+
+-- what batches say of the area that counts
+pub of_batches : (c : Image) (area : Area) (list : List Stored) → counting c ≡ Ok (Some area) → batches c ≡ Ok (record { area = area; list = list }) → frames_from operations_of (length (file area c)) (file area c) 17 ≡ Ok list
+unfolding list_in
+of_batches c area list counts is =
+    let frames = frames_from operations_of (length (file area c)) (file area c) 17 in
+    within frames (sym (framed c area frames counts refl) ∙ is)
+  where
+    within : (r : Result (List Stored) ℕ) → logged area r ≡ Ok (record { area = area; list = list }) → r ≡ Ok list
+    within (Err at) h = absurd (cc)
+    within (Ok xs) h =
+        let same : xs ≡ list = ap (λ (r : Result Log Damage). list_in r) h in
+        ap (λ (l : List Stored). let r : Result (List Stored) ℕ = Ok l in r) same
+
+-- the area that counts has a generation
+pub counting_headed : (c : Image) (area : Area) → counting c ≡ Ok (Some area) → (generation : ℕ) × (generation_in (file area c) ≡ Ok (Some generation))
+counting_headed c area is = by_both (generation_in c.a) (generation_in c.b) refl refl is
+  where
+    by_both : (a b : Result (Option ℕ) ℕ) → generation_in c.a ≡ a → generation_in c.b ≡ b → by_headers a b ≡ Ok (Some area) → (generation : ℕ) × (generation_in (file area c) ≡ Ok (Some generation))
+    by_both (Err at) b is_a is_b h = absurd (cc)
+    by_both (Ok a) (Err at) is_a is_b h = absurd (cc)
+    by_both (Ok None) (Ok None) is_a is_b h = absurd (cc)
+    by_both (Ok (Some a)) (Ok None) is_a is_b h = by_area area a is_a (let same : A ≡ area = cc in same)
+      where
+        by_area : (x : Area) (n : ℕ) → generation_in c.a ≡ Ok (Some n) → A ≡ x → (generation : ℕ) × (generation_in (file x c) ≡ Ok (Some generation))
+        by_area A n is same = (n, is)
+        by_area B n is same = absurd (cc)
+    by_both (Ok None) (Ok (Some b)) is_a is_b h = by_area area b is_b (let same : B ≡ area = cc in same)
+      where
+        by_area : (x : Area) (n : ℕ) → generation_in c.b ≡ Ok (Some n) → B ≡ x → (generation : ℕ) × (generation_in (file x c) ≡ Ok (Some generation))
+        by_area A n is same = absurd (cc)
+        by_area B n is same = (n, is)
+    by_both (Ok (Some a)) (Ok (Some b)) is_a is_b h = by_area area
+      where
+        by_area : (x : Area) → (generation : ℕ) × (generation_in (file x c) ≡ Ok (Some generation))
+        by_area A = (a, is_a)
+        by_area B = (b, is_b)
+
+-- an area whose frames were read
+pub has_read : (c : Image) (area : Area) (read : Found) → counting c ≡ Ok (Some area) → read.area ≡ area → AreRead (file area c) read → Has (all_stored read.batches.items) (record { area = area; end = read.end }) c
+has_read c area read counts same is = record {
+  counts = counts;
+  batches = framed c area (Ok (all_stored read.batches.items)) counts is.read;
+  bytes = take 17 (file area c);
   payloads = is.payloads;
   frames = is.frames;
 }
 
--- an open area of these frames
+-- ---- a new area
+
 long_open : (x : ℕ) (rest : List ℕ) → 0 < length rest → x ≡ 1 → is_open (x ∷ rest) ≡ true
 long_open x rest long one = grind (arith, nat_tests)
 
-pub headed : (generation rest : List ℕ) → length generation ≡ 8 → 0 < length rest → has_header ((1 ∷ (magic ++ generation)) ++ rest) ≡ true
+headed : (generation rest : List ℕ) → length generation ≡ 8 → 0 < length rest → has_header ((1 ∷ (magic ++ generation)) ++ rest) ≡ true
 headed generation rest eight long = let n = length-append generation rest in grind (arith, nat_tests, n)
 
--- a new area
-pub has_new : (d c : Image) → Laid 0 d.a → c.a ≡ 1 ∷ drop 1 d.a → is_open c.b ≡ false → Has [] 17 c
+pub has_new : (d c : Image) → Laid 0 d.a → c.a ≡ 1 ∷ drop 1 d.a → is_open c.b ≡ false → Has [] (record { area = A; end = 17 }) c
 has_new d c laid is closed_b =
     let generation = to_be_bytes w64 0 in
     let split : c.a ≡ (1 ∷ (magic ++ generation)) ++ 0 ∷ laid.rest = is ∙ ap (λ (l : List ℕ). 1 ∷ drop 1 l) laid.split in
     let opened : is_open c.a ≡ true = ap is_open split ∙ long_open 1 (magic ++ generation ++ 0 ∷ laid.rest) (omega arith) refl in
     let has : has_header c.a ≡ true = ap has_header split ∙ headed generation (0 ∷ laid.rest) refl (omega arith) in
     let frames : Frames c.a (1 ∷ (magic ++ generation)) [] 17 = record { gate = 0; rest = laid.rest; split = split; shut = omega arith; header = refl; place = refl } in
+    let counts : counting c ≡ Ok (Some A) =
+    (λ i. by_headers (headed_area c.a (from_be_bytes w64 (take 8 (drop 9 c.a))) opened has refl i) (closed_area c.b closed_b i)) in
     record {
-      batches = framed c [] opened has (frames_read operation_of c.a (1 ∷ (magic ++ generation)) [] 17 frames (omega arith)) closed_b;
-      opened = opened;
-      head = 1 ∷ (magic ++ generation);
+      counts = counts;
+      batches = framed c A (Ok []) counts (frames_read operations_of c.a (1 ∷ (magic ++ generation)) [] 17 frames (omega arith));
+      bytes = 1 ∷ (magic ++ generation);
       payloads = [];
       frames = frames;
     }
 
--- files of the same header
-pub same_open : (d c head rest rest' : List ℕ) → length head ≡ 17 → d ≡ head ++ rest → c ≡ head ++ rest' → 0 < length rest' → (is_open d ≡ true → is_open c ≡ true) × (has_header d ≡ true → has_header c ≡ true)
-same_open d c [] rest rest' long is_d is_c some = absurd (omega (arith, long))
-same_open d c (x ∷ head) rest rest' long is_d is_c some =
-    let word : take 8 (head ++ rest) ≡ take 8 (head ++ rest') = same_front head rest rest' (omega (arith, long)) in (
-      λ opened. ap is_open is_c ∙ long_open x (head ++ rest') (omega (arith, length-append head rest')) (first_one x (head ++ rest) (sym (ap is_open is_d) ∙ opened)),
-      λ has. ap has_header is_c ∙ has_word x (head ++ rest') (omega (arith, some, long, length-append head rest')) (ap (λ (l : List ℕ). pointwise nat_eq l magic) (sym word) ∙ word_of x (head ++ rest) (sym (ap has_header is_d) ∙ has)),
-    )
+-- ---- files of the same header
+
+pub same_generation : (d c head rest rest' : List ℕ) → length head ≡ 17 → d ≡ head ++ rest → c ≡ head ++ rest' → 0 < length rest → 0 < length rest' → generation_in c ≡ generation_in d
+same_generation d c [] rest rest' long is_d is_c some some' = absurd (omega (arith, long))
+same_generation d c (x ∷ head) rest rest' long is_d is_c some some' =
+    ap generation_in is_c ∙ of_front rest' some' ∙ sym (of_front rest some) ∙ ap generation_in (sym is_d)
   where
-    first_one : (x : ℕ) (rest : List ℕ) → is_open (x ∷ rest) ≡ true → x ≡ 1
-    first_one x rest is = grind (arith, nat_tests)
+    open_is : (l : List ℕ) → 0 < length l → is_open (x ∷ l) ≡ (x == 1)
+    open_is l some = grind (arith, nat_tests)
 
-    word_of : (x : ℕ) (rest : List ℕ) → has_header (x ∷ rest) ≡ true → pointwise nat_eq (take 8 rest) magic ≡ true
-    word_of x rest is = grind (arith, nat_tests)
+    header_is : (l : List ℕ) → 17 ≤ length l → has_header (x ∷ l) ≡ pointwise nat_eq (take 8 l) magic
+    header_is l long = grind (arith, nat_tests)
 
-    has_word : (x : ℕ) (rest : List ℕ) → 17 ≤ length rest → pointwise nat_eq (take 8 rest) magic ≡ true → has_header (x ∷ rest) ≡ true
-    has_word x rest long is = grind (arith, nat_tests)
+    of_front : (l : List ℕ) → 0 < length l → generation_in ((x ∷ head) ++ l) ≡ cond (x == 1) (cond (pointwise nat_eq (take 8 head) magic) (Ok (Some (from_be_bytes w64 (take 8 (drop 8 head))))) (Err 0)) (Ok None)
+    of_front l some =
+        let size = length-append head l in
+        let opened = open_is (head ++ l) (omega (arith, long, size)) in
+        let word = header_is (head ++ l) (omega (arith, long, size, some)) ∙ ap (λ (w : List ℕ). pointwise nat_eq w magic) (take-append-le 8 head l (omega (arith, long))) in
+        let number : take 8 (drop 8 (head ++ l)) ≡ take 8 (drop 8 head) =
+        ap (λ (w : List ℕ). take 8 w) (drop-append-le 8 head l (omega (arith, long))) ∙ take-append-le 8 (drop 8 head) l (omega (arith, long, length-drop 8 head)) in
+        (λ i. let r : Result (Option ℕ) ℕ = cond (opened i) (cond (word i) (Ok (Some (from_be_bytes w64 (number i)))) (Err 0)) (Ok None) in r)
 
-    same_front : (head rest rest' : List ℕ) → 8 ≤ length head → take 8 (head ++ rest) ≡ take 8 (head ++ rest')
-    same_front head rest rest' long = take-append-le 8 head rest long ∙ sym (take-append-le 8 head rest' long)
+-- the area that counts is the same where one file has the same generation and the other one stays
+pub same_counting : (area : Area) (d c : Image) → generation_in (file area c) ≡ generation_in (file area d) → file (other area) c ≡ file (other area) d → counting c ≡ counting d
+same_counting A d c same rest = λ i. by_headers (same i) (generation_in (rest i))
+same_counting B d c same rest = λ i. by_headers (generation_in (rest i)) (same i)

@@ -1,28 +1,31 @@
 -- The answers of the calls that open a store.
-use Rattle.std.proofs.Common.{◌≡◌, ⊎_elim, ℕ, List, [], ◌∷◌, ◌++◌, length, take, drop, get_or, true, false, Result, Ok, Err, refl, sym, ◌∙◌, ap, subst}
-use Rattle.pl_base.specs.Image.{Image}
+use Rattle.std.proofs.Common.{◌≡◌, inl, inr, ⊎_elim, ℕ, List, [], ◌∷◌, ◌++◌, length, take, drop, get_or, false, Option, Some, None, Result, Ok, Err, refl, sym, ◌∙◌, ap, subst, append_assoc}
+use Rattle.std.specs.Prelude.{IfOk}
+use Rattle.pl_base.specs.Image.{Image, file}
 use Rattle.pl_base.specs.declared.area.Area.{Area}
 use Rattle.pl_base.specs.declared.area.Area.TheVariants.{A, B}
-use Rattle.pl_codec.specs.Spelling.{operation_of}
-use Rattle.pl_disk.specs.Disk.{View, After, Only, IsLawful, Looks, Settled, Writes}
-use Rattle.pl_disk.specs.Lent.{writes_weaker, writes_on, looked_writes, after_writes, run_weaker, settled_since}
-use Rattle.pl_frames.specs.Format.{is_open, has_header, frames_from}
-use Rattle.pl_frames.specs.Header.{Shut, Laid, Leaves, MayClose, MayLay, MayOpen, LacksHeader}
+use Rattle.pl_codec.specs.Reading.{operations_of}
+use Rattle.pl_disk.specs.Disk.{View, Calls, After, Only, IsLawful, Looks, Settled, Writes}
+use Rattle.pl_disk.specs.declared.device.Failed.{Failed}
+use Rattle.pl_disk.specs.Lent.{writes_weaker, writes_on, looked_writes, after_writes, run_weaker, settled_since, from_call}
+use Rattle.pl_frames.specs.Format.{is_open, frames_from}
+use Rattle.pl_frames.specs.Header.{Shut, Laid, Leaves, MayClose, MayLay, MayOpen}
 use Rattle.pl_frames.specs.Lent.{shut_closed, not_one_closed}
-use Rattle.pl_keeper.specs.Batches.{Stored, Damage, batches}
-use Rattle.pl_keeper.specs.Reading.{AreRead, BreaksIn, IsOpenAt, Opening, Opened}
-use Rattle.pl_keeper.specs.Store.{Has, IsStore, DamagedAt, HasSame, all_stored}
+use Rattle.pl_keeper.specs.Batches.{Log, Damage, counting, batches}
+use Rattle.pl_keeper.specs.Reading.{AreRead, AreReadIn, BreaksIn, IsMisheaded, Opening, Opened}
+use Rattle.pl_keeper.specs.Lent.{none_stored}
+use Rattle.pl_keeper.specs.Store.{Has, Head, IsStore, DamagedAt, HasSame, Recovering, Recovered, all_stored, log_of}
 use Rattle.pl_keeper.specs.declared.batch.Batch.{Batch}
 use Rattle.pl_keeper.specs.declared.opening.Found.{Found}
-use Rattle.pl_keeper.proofs.Opens.{none_stored, headless, malformed, beside_nothing, beside_frames, has_read, has_new}
+use Rattle.pl_keeper.proofs.Opens.{both_closed, none_open, misheaded, framed, has_read, has_new}
 
 -- two closed files, of which area B is this one
 pub record IsEmpty (b : List ℕ) (c : Image) : Type 0 where
-  pub batches : batches c ≡ Ok []
+  pub batches : batches c ≡ Ok (log_of A [])
   pub area_b : c.b ≡ b
 
 closed_both : (b : List ℕ) (c : Image) → is_open b ≡ false → is_open c.a ≡ false → c.b ≡ b → IsEmpty b c
-closed_both b c closed_b closed_a same = record { batches = none_stored c closed_a (ap is_open same ∙ closed_b); area_b = same }
+closed_both b c closed_b closed_a same = record { batches = none_stored c (both_closed c closed_a (ap is_open same ∙ closed_b)); area_b = same }
 
 shut_laying : (d c : List ℕ) → take 1 c ≡ take 1 d → Shut d → is_open c ≡ false
 shut_laying d [] is was = refl
@@ -39,7 +42,7 @@ module _ (b : List ℕ) where
   lays a d closed_b shut beside run = writes_weaker a d _ (IsEmpty b) run (λ told c is.
       closed_both b c (closed_b told) (shut_laying is.0.a c.a is.2.gate (shut told is.0 is.1)) (is.2.rest ∙ beside told is.0 is.1))
 
-  opened : (d c : Image) → is_open b ≡ false → Laid 0 d.a → c.a ≡ 1 ∷ drop 1 d.a → c.b ≡ b → Has [] 17 c
+  opened : (d c : Image) → is_open b ≡ false → Laid 0 d.a → c.a ≡ 1 ∷ drop 1 d.a → c.b ≡ b → Has [] (record { area = A; end = 17 }) c
   opened d c closed_b laid is same = has_new d c laid is (ap is_open same ∙ closed_b)
 
   pub opens : (a d : View) → (a.told → is_open b ≡ false) → (a.told → Leaves A (λ f. Shut f × Laid 0 f) a) → (a.told → Leaves B (λ f. f ≡ b) a) → Writes a d (After (MayOpen A) a.may_leave) → Writes a d (IsEmpty b)
@@ -48,7 +51,7 @@ module _ (b : List ℕ) where
       ⊎_elim (λ shut. closed_both b c (closed_b told) (shut_closed c.a shut) same)
       (λ now. record { batches = (opened is.0 c (closed_b told) (laid told is.0 is.1).1 now same).batches; area_b = same }) is.2.change)
 
-  pub new_stored : (a d : View) → is_open b ≡ false → IsLawful a → Leaves A (λ f. Shut f × Laid 0 f) a → Leaves B (λ f. f ≡ b) d → Leaves A (λ f. f ≡ 1 ∷ drop 1 a.seen.a) d → IsStore d.may_leave 17 []
+  pub new_stored : (a d : View) → is_open b ≡ false → IsLawful a → Leaves A (λ f. Shut f × Laid 0 f) a → Leaves B (λ f. f ≡ b) d → Leaves A (λ f. f ≡ 1 ∷ drop 1 a.seen.a) d → IsStore d.may_leave (record { area = A; end = 17 }) []
   new_stored a d closed_b lawful laid beside is c left = opened a.seen c closed_b (laid a.seen lawful.reads).1 (is c left) (beside c left)
 
   -- area B stays, from a settled store on
@@ -83,8 +86,15 @@ third_call a m d lawful lawful' only closed_b first laid run =
     let before = first.moments.continues.told_before in
     then_empty a.seen.b a m d first (opens a.seen.b m d (λ t. closed_b (before t)) (λ t. laid (before t)) (beside_all a m lawful lawful' only first) run)
 
-pub from_empty : (a d : View) → (a.told → is_open a.seen.a ≡ false) → (a.told → is_open a.seen.b ≡ false) → Writes a d (IsEmpty a.seen.b) → Writes a d (Opening a)
-from_empty a d closed_a closed_b run = writes_weaker a d _ (Opening a) run (λ told c is. (is.batches ∙ sym (none_stored a.seen (closed_a told) (closed_b told)), is.area_b))
+pub from_empty : (a d : View) → (a.told → counting a.seen ≡ Ok None) → Writes a d (IsEmpty a.seen.b) → Writes a d (Opening a)
+from_empty a d closed run = writes_weaker a d _ (Opening a) run (λ told c is. (is.batches ∙ sym (none_stored a.seen (closed told)), is.area_b))
+
+-- where no area counts, both are closed
+pub closed_a : (v : View) → (v.told → counting v.seen ≡ Ok None) → v.told → is_open v.seen.a ≡ false
+closed_a v closed told = (none_open v.seen (closed told)).0
+
+pub closed_b : (v : View) → (v.told → counting v.seen ≡ Ok None) → v.told → is_open v.seen.b ≡ false
+closed_b v closed told = (none_open v.seen (closed told)).1
 
 laid_open : (d c : List ℕ) → Laid 0 d → c ≡ 1 ∷ drop 1 d → Laid 0 c
 laid_open d c laid is = record { gate = 1; rest = laid.rest; split = is ∙ ap (λ (l : List ℕ). 1 ∷ drop 1 l) laid.split }
@@ -106,54 +116,45 @@ still_only a m looks only told c left =
     only before c ((looks.images before).crash c left) ∙ sym (looks.images before).seen
 
 -- the damage, as that of the files that were read
-place : {x y : Area} {m n : ℕ} → x ≡ y → m ≡ n → (let r : Result (List Stored) Damage = Err (record { area = x; at = m }) in r) ≡ Err (record { area = y; at = n })
+place : {x y : Area} {m n : ℕ} → x ≡ y → m ≡ n → (let r : Result Log Damage = Err (record { area = x; at = m }) in r) ≡ Err (record { area = y; at = n })
 place p q = λ i. Err (record { area = p i; at = q i })
 
-pub headless_damage : (v : View) (area : Area) (at : ℕ) → LacksHeader A v area at → DamagedAt v area at
-headless_damage v area at is told = let it = is told in headless v.seen it.2 it.3 ∙ place (sym it.0) (sym it.1)
+pub headers_damage : (v : View) (area : Area) (at : ℕ) → IsMisheaded v area at → DamagedAt v area at
+headers_damage v area at is told = misheaded v.seen (record { area = area; at = at }) (is told)
 
--- the same of what a look found after another
-seen_damage : (a m : View) (area : Area) (at : ℕ) → Looks a m → a.told → batches m.seen ≡ Err (record { area = area; at = at }) → batches a.seen ≡ Err (record { area = area; at = at })
-seen_damage a m area at looks told is = ap batches (sym (looks.images told).seen) ∙ is
-
-pub frames_damage : (a m : View) → Looks a m → (a.told → (is_open a.seen.a ≡ true) × (has_header a.seen.a ≡ true)) → (area : Area) (at : ℕ) → BreaksIn m area at → DamagedAt a area at
-frames_damage a m looks has area at is told =
+pub frames_damage : (a m : View) (area : Area) → Looks a m → (a.told → counting a.seen ≡ Ok (Some area)) → (where_ : Area) (at : ℕ) → BreaksIn area m where_ at → DamagedAt a where_ at
+frames_damage a m area looks counts where_ at is told =
     let it = is (looks.continues.told told) in
     let seen = (looks.images told).seen in
-    let form = subst (λ (i : Image). frames_from operation_of (length i.a) i.a 17 ≡ Err at) seen it.1 in
-    malformed a.seen at (has told).0 (has told).1 form ∙ place (sym it.0) refl
+    let form = subst (λ (i : Image). frames_from operations_of (length (file area i)) (file area i) 17 ≡ Err at) seen it.1 in
+    framed a.seen area (Err at) (counts told) form ∙ place (sym it.0) refl
 
-open_b : (a m : View) → Looks a m → a.told → (area : Area) (at : ℕ) → IsOpenAt B m area at → (area ≡ B) × (at ≡ 0) × (is_open a.seen.b ≡ true)
-open_b a m looks told area at is =
-    let it = is (looks.continues.told told) in
-    (it.0, it.1, ap (λ (i : Image). is_open i.b) (sym (looks.images told).seen) ∙ it.2)
+pub if_read : {T E : Type 0} {P : T → Type 0} (r : Result T E) (Q : T → Type 0) → ((x : T) → Q x → P x) → IfOk r Q → IfOk r P
+if_read (Ok x) Q on is = on x is
+if_read (Err e) Q on is = tt
 
-pub beside_closed : (a m : View) → Looks a m → (a.told → is_open a.seen.a ≡ false) → (area : Area) (at : ℕ) → IsOpenAt B m area at → DamagedAt a area at
-beside_closed a m looks closed area at is told =
-    let it = open_b a m looks told area at is in
-    beside_nothing a.seen (closed told) it.2 ∙ place (sym it.0) (sym it.1)
-
-pub beside_open : (a m : View) (read : Found) → Looks a m → (a.told → (is_open a.seen.a ≡ true) × (has_header a.seen.a ≡ true) × AreRead a.seen.a read) → (area : Area) (at : ℕ) → IsOpenAt B m area at → DamagedAt a area at
-beside_open a m read looks has area at is told =
-    let it = open_b a m looks told area at is in
-    let was = has told in
-    beside_frames a.seen (all_stored read.batches.items) was.0 was.1 was.2.read it.2 ∙ place (sym it.0) (sym it.1)
+pub seen_read : (a m : View) (area : Area) (read : Found) → m.seen ≡ a.seen → AreReadIn m area read → AreReadIn a area read
+seen_read a m area read same is = (is.0, subst (λ (i : Image). AreRead (file area i) read) same is.1)
 
 -- what was opened
-pub opened_read : (a d : View) (read : Found) → Only a.seen a.may_leave → ((c : Image) → d.may_leave c → a.may_leave c) → is_open a.seen.a ≡ true → has_header a.seen.a ≡ true → AreRead a.seen.a read → is_open a.seen.b ≡ false → Opened a d read
-opened_read a d read only crash opened has is closed_b =
-    let it = has_read a.seen read opened has is closed_b in
+pub opened_read : (a d : View) (area : Area) (read : Found) → Only a.seen a.may_leave → ((c : Image) → d.may_leave c → a.may_leave c) → counting a.seen ≡ Ok (Some area) → AreReadIn a area read → Opened a d read
+opened_read a d area read only crash counts is =
+    let it = has_read a.seen area read counts is.0 is.1 in
+    let head : (let h : Head = record { area = area; end = read.end } in h) ≡ record { area = read.area; end = read.end } = λ i. record { area = sym is.0 i; end = read.end } in
     record {
-      found = it.batches;
-      store = λ c left. subst (λ (i : Image). Has (all_stored read.batches.items) read.end i) (sym (only c (crash c left))) it;
-      new_area = λ closed. absurd (let no : true ≡ false = sym opened ∙ closed in cc);
+      found = it.batches ∙ ap (λ (x : Area). let r : Result Log Damage = Ok (log_of x read.batches.items) in r) (sym is.0);
+      store = λ c left. subst (λ (h : Head). Has (all_stored read.batches.items) h c) head (subst (λ (i : Image). Has (all_stored read.batches.items) (record { area = area; end = read.end }) i) (sym (only c (crash c left))) it);
+      new_area = λ none. absurd (some_none area (sym counts ∙ none));
     }
+  where
+    some_none : (x : Area) → (let r : Result (Option Area) Damage = Ok (Some x) in r) ≡ Ok None → ⊥
+    some_none x h = cc
 
-pub opened_new : (a d : View) (read : Found) → is_open a.seen.a ≡ false → is_open a.seen.b ≡ false → read.batches.items ≡ [] → read.end ≡ 17 → IsStore d.may_leave 17 [] → Leaves A (Laid 0) d → Opened a d read
-opened_new a d read closed_a closed_b none start store laid = record {
-  found = none_stored a.seen closed_a closed_b ∙ ap (λ (l : List Batch). let r : Result (List Stored) Damage = Ok (all_stored l) in r) (sym none);
-  store = subst (λ (l : List Batch). IsStore d.may_leave read.end (all_stored l)) (sym none) (subst (λ (k : ℕ). IsStore d.may_leave k []) (sym start) store);
-  new_area = λ closed. laid;
+pub opened_new : (a d : View) (read : Found) → counting a.seen ≡ Ok None → read.area ≡ A → read.batches.items ≡ [] → read.end ≡ 17 → IsStore d.may_leave (record { area = A; end = 17 }) [] → Leaves A (Laid 0) d → Opened a d read
+opened_new a d read closed is_a none start store laid = record {
+  found = none_stored a.seen closed ∙ (λ i. let r : Result Log Damage = Ok (log_of (sym is_a i) (sym none i)) in r);
+  store = λ c left. subst (λ (h : Head). Has (all_stored read.batches.items) h c) (λ i. record { area = sym is_a i; end = sym start i }) (subst (λ (l : List Batch). Has (all_stored l) (record { area = A; end = 17 }) c) (sym none) (store c left));
+  new_area = λ none. laid;
 }
 
 -- the run from the sync on
@@ -167,3 +168,26 @@ pub same_b : (a b d : View) → IsLawful b → IsLawful d → b.told → b.seen 
 same_b a b d lawful lawful' told seen only run =
     (after_writes b d (Opening b) lawful lawful' told run (λ c left. let same = only c left ∙ sym seen in (ap batches same, ap (λ (i : Image). i.b) same)) d.seen lawful'.reads).1
     ∙ ap (λ (i : Image). i.b) seen
+
+-- a recover: its sync, and what opens the store
+module _ {T : Type 0} (a m d : View) (result : Result T Failed) (call : Calls a m result) (seen : a.told → m.seen ≡ a.seen) where
+  synced_run : (a.told → (c : Image) → m.may_leave c → a.may_leave c) → Writes a m a.may_leave
+  synced_run crash = record {
+    moments = run_weaker a m _ (λ p c. (p ≡ a.printed) × a.may_leave c) (from_call a m result call) (λ told p c is. (is.0, crash told c is.1));
+    printed = call.printed;
+    say_faults = call.say_faults;
+  }
+
+  pub recovers : (a.told → IsLawful a) → (a.told → (c : Image) → m.may_leave c → a.may_leave c) → Writes m d (Opening m) → Writes a d (Recovering a)
+  recovers lawful crash run = writes_on a m d a.may_leave (Opening m) (Recovering a) (synced_run crash) run
+      (λ told c is. record { batches = inl is; area_b = (c, is, refl) })
+      (λ told c is. record { batches = inr (is.0 ∙ ap batches (seen told)); area_b = (a.seen, (lawful told).reads, is.1 ∙ ap (λ (i : Image). i.b) (seen told)) })
+
+  pub recovered : (read : Found) → a.told → m.synced ≡ a.synced ++ m.moment ∷ [] → ((more : List ℕ) × (d.synced ≡ m.synced ++ more)) → Opened m d read
+      → Recovered a d (record { area = read.area; end = read.end }) (all_stored read.batches.items)
+  recovered read told first later opened = record {
+    found = ap batches (sym (seen told)) ∙ opened.found;
+    store = opened.store;
+    synced = (m.moment, later.0, later.1 ∙ ap (λ (l : List ℕ). l ++ later.0) first ∙ append_assoc a.synced (m.moment ∷ []) later.0);
+    new_area = λ none. opened.new_area (ap counting (seen told) ∙ none);
+  }

@@ -1,3 +1,4 @@
 pub mod Batches
 pub mod Store
 pub mod Reading
+pub mod Lent

@@ -7,5 +7,5 @@ use pl_base::Op;
 pub struct Batch {
     /// The place of its frame's gate, as a byte of the area's file, counted from 0.
     pub at: u64,
-    pub op: Op,
+    pub ops: Vec<Op>,
 }

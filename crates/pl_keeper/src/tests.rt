@@ -3,6 +3,7 @@ ghost use Rattle.pl_disk.specs.Disk.{untold};
 
 use crate::Keeper;
 use pl_base::{Area, List, Name, Op, Txt, Value};
+use pl_codec::encode;
 use pl_disk::{Disk, Failed};
 use std::test::Fail;
 
@@ -94,13 +95,15 @@ fn two_commits_are_read_back(rt: HostRuntime) -> Result<(), Fail> {
     let (mut keeper, batches) = Keeper::recover(alloc, &mut file)?;
     assert_eq!(rt; batches.len(), 0);
     let text = Txt::from_slice(alloc, b"CREATE TABLE n (c integer)")?;
-    keeper.commit(alloc, &mut file, &Op::Define { text })?;
+    let ops = [Op::Define { text }];
+    keeper.commit(alloc, &mut file, &ops)?;
     let row = List::from_vec(vec![in alloc; Value::Int(1)]?);
     let Some(table) = Name::of("n") else {
         assert!(rt; false, "n is a name");
         return Ok(());
     };
-    keeper.commit(alloc, &mut file, &Op::Put { table, id: 1, row })?;
+    let payload = encode(alloc, &Op::Put { table, id: 1, row })?;
+    keeper.commit_payload(alloc, &mut file, payload.as_slice())?;
     assert_eq!(rt; keeper.head(), (Area::A, 83));
     assert_eq!(rt; file.len, STORE.len());
     assert!(rt; file.bytes[..84] == STORE[..]);
@@ -109,8 +112,8 @@ fn two_commits_are_read_back(rt: HostRuntime) -> Result<(), Fail> {
     assert_eq!(rt; keeper.head(), (Area::A, 83));
     assert_eq!(rt; batches.len(), 2);
     assert_eq!(rt; batches[0].at, 17);
-    assert!(rt; matches!(batches[0].op, Op::Define { .. }));
+    assert!(rt; matches!(batches[0].ops.as_slice(), [Op::Define { .. }]));
     assert_eq!(rt; batches[1].at, 57);
-    assert!(rt; matches!(batches[1].op, Op::Put { id: 1, .. }));
+    assert!(rt; matches!(batches[1].ops.as_slice(), [Op::Put { id: 1, .. }]));
     Ok(())
 }

@@ -1,9 +1,10 @@
 -- The database: what commands read and change, and what a commit makes durable.
-use Rattle.std.specs.Prelude.{◌==◌, ◌&&◌, ◌||◌, ℕ, ◌+◌, max, List, [], ◌∷◌, ◌++◌, length, Option, Some, None, option_map, Bool, true, false, nat_lt, nat_eq, if◌then◌else◌}
+use Rattle.std.specs.Prelude.{◌==◌, ◌&&◌, ◌||◌, ℕ, ◌+◌, ◌^◌, max, List, [], ◌∷◌, ◌++◌, length, Option, Some, None, option_map, Bool, true, false, nat_lt, nat_le, nat_eq, if◌then◌else◌}
 use Rattle.std.specs.Cmp.Lexicographic.{pointwise}
 use Rattle.std.specs.List.{list_any}
 use Rattle.std.specs.Ordering.{nat_cmp}
 use Rattle.std.specs.BTreeMap.{insert_entry}
+use Rattle.std.specs.Map.{remove_entry}
 use Rattle.pl_base.specs.declared.types.Ty.{Ty}
 use Rattle.pl_base.specs.declared.types.Ty.TheVariants as type
 use Rattle.pl_base.specs.declared.value.Value.{Value}
@@ -76,16 +77,39 @@ put_in id row table =
     then Some (record table { rows = with_row id row table.rows; next = max table.next (id + 1) })
     else None
 
-abbrev pub put_object : ℕ → List Value → Object → Option Object
-put_object id row (TableObject table) = option_map (λ t. TableObject t) (put_in id row table)
+-- the rows without the one of this id
+abbrev pub without_row : ℕ → List (ℕ × List Value) → List (ℕ × List Value)
+without_row id rows = remove_entry (λ k. k == id) rows
 
--- the database with this row in the table of this name; None where there is none, or the row can't be put there
-abbrev pub put : List ℕ → ℕ → List Value → Database → Option Database
-put name id row [] = None
-put name id row (object ∷ db) =
+-- the table without this row; None where it isn't there
+abbrev pub remove_in : ℕ → Table → Option Table
+remove_in id table =
+    if has_row id table.rows then Some (record table { rows = without_row id table.rows }) else None
+
+-- the table with this next id; None where that is below the present one, or past 2^63
+abbrev pub raise_in : ℕ → Table → Option Table
+raise_in next table =
+    if nat_le table.next next && nat_le next (2 ^ 63) then Some (record table { next = next }) else None
+
+abbrev pub in_object : (Table → Option Table) → Object → Option Object
+in_object change (TableObject table) = option_map (λ t. TableObject t) (change table)
+
+-- the database with the table of this name changed so; None where there is none, or it can't be changed so
+abbrev pub in_table : (Table → Option Table) → List ℕ → Database → Option Database
+in_table change name [] = None
+in_table change name (object ∷ db) =
     if is_named name object
-    then option_map (λ new. new ∷ db) (put_object id row object)
-    else option_map (λ rest. object ∷ rest) (put name id row db)
+    then option_map (λ new. new ∷ db) (in_object change object)
+    else option_map (λ rest. object ∷ rest) (in_table change name db)
+
+abbrev pub put : List ℕ → ℕ → List Value → Database → Option Database
+put name id row db = in_table (put_in id row) name db
+
+abbrev pub remove : List ℕ → ℕ → Database → Option Database
+remove name id db = in_table (remove_in id) name db
+
+abbrev pub raise : List ℕ → ℕ → Database → Option Database
+raise name next db = in_table (raise_in next) name db
 
 abbrev pub next_in : Object → ℕ
 next_in (TableObject table) = table.next

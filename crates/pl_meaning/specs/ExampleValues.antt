@@ -1,4 +1,4 @@
--- The values of the examples: the table n with a column c, without rows and with the row [1], and the events of the two commands.
+-- The values of the examples: the table n with a column c, without rows, with the row [1] and without it again, and the events of the two commands.
 use Rattle.std.specs.Prelude.{pos, List, [], ◌∷◌, codes}
 use Rattle.pl_base.specs.declared.types.Ty.TheVariants as type
 use Rattle.pl_base.specs.declared.value.Value.TheVariants as value
@@ -18,6 +18,10 @@ made = TableObject (record { name = codes "n"; columns = columns; rows = []; nex
 
 abbrev pub filled : Database
 filled = TableObject (record { name = codes "n"; columns = columns; rows = (1, value.Int (pos 1) ∷ []) ∷ []; next = 2 }) ∷ []
+
+-- and without it again
+abbrev pub emptied : Database
+emptied = TableObject (record { name = codes "n"; columns = columns; rows = []; next = 2 }) ∷ []
 
 abbrev pub both : List Event
 both = Committed made ∷ Said created ∷ Committed filled ∷ Said inserted ∷ []

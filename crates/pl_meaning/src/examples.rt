@@ -2,7 +2,8 @@
 
 ghost use Rattle.std.specs.Prelude.{◌≡◌, [], ◌∷◌, pos, codes, true, false, None, Some};
 ghost use Rattle.pl_meaning.specs.Covered.{at_least, at_most};
-ghost use Rattle.pl_meaning.specs.ExampleValues.{n_of_c, made, filled, both};
+ghost use Rattle.pl_meaning.specs.Database.{raise, remove};
+ghost use Rattle.pl_meaning.specs.ExampleValues.{n_of_c, made, filled, emptied, both};
 ghost use Rattle.pl_meaning.specs.Meaning.{creates, inserts};
 ghost use Rattle.pl_meaning.specs.Replies.{created, inserted, duplicate_table, undefined_table, not_supported};
 ghost use Rattle.pl_meaning.specs.Trace.{Said, Failed, Committed, is_failed, text, commits, last_commit};
@@ -14,6 +15,10 @@ pub fn examples_hold()
     ensures inserts { inserts (codes "n") (Some (pos 1)) made ≡ Committed filled ∷ Said inserted ∷ [] }
     ensures inserts_nowhere { inserts (codes "m") (Some (pos 1)) made ≡ Failed undefined_table ∷ [] }
     ensures inserts_no_number { inserts (codes "n") None made ≡ Failed not_supported ∷ [] }
+    ensures removes { (remove (codes "n") 1 filled ≡ Some emptied)
+        × (remove (codes "n") 2 filled ≡ None) }
+    ensures raises { (raise (codes "n") 2 emptied ≡ Some emptied)
+        × (raise (codes "n") 1 emptied ≡ None) }
     ensures text { text both ≡ codes "CREATE TABLE\nINSERT 0 1\n" }
     ensures commits { commits both [] ≡ [] ∷ made ∷ filled ∷ [] }
     ensures last { last_commit both [] ≡ filled }

@@ -3,7 +3,7 @@
 use crate::report::Report;
 use pl_base::Memory;
 use pl_cli::run;
-use pl_disk::{Host, MemoryHost, MemorySource};
+use pl_disk::{Area, Host, MemoryHost, MemorySource};
 use std::alloc::Global;
 
 /// The words of a run.
@@ -16,6 +16,9 @@ pub const TEXT: &str = "CREATE TABLE\nINSERT 0 1\n";
 
 /// What it prints when it is run again.
 pub const AGAIN: &str = "ERROR:  42P07: duplicate_table\nINSERT 0 1\n";
+
+/// What an INSERT of one row prints.
+pub const INSERTED: &str = "INSERT 0 1\n";
 
 /// The store that the script leaves of an empty one, as the format has it.
 pub const STORE: &[u8] = b"\x01PLPGST01\0\0\0\0\0\0\0\0\
@@ -84,6 +87,21 @@ pub fn printed(alloc: Global, ran: Result<Ran, Memory>, status: u8) -> Report {
             if ran.status != status {
                 out.number(u64::from(ran.status));
             }
+            out.push(ran.host.printed());
+        }
+        Err(_) => out.spoil(),
+    }
+    out
+}
+
+/// The status of a run over these files, how long both are then, and what is printed.
+pub fn outcome(alloc: Global, a: &[u8], b: &[u8], script: &[u8]) -> Report {
+    let mut out = Report::new(alloc);
+    match run_on(alloc, a, b, &PLAIN, script, &[]) {
+        Ok(ran) => {
+            out.number(u64::from(ran.status));
+            out.number(ran.host.area(Area::A).len() as u64);
+            out.number(ran.host.area(Area::B).len() as u64);
             out.push(ran.host.printed());
         }
         Err(_) => out.spoil(),

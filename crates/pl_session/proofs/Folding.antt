@@ -6,18 +6,18 @@ use Rattle.pl_keeper.specs.Store.{stored as stored_of}
 use Rattle.pl_keeper.specs.declared.batch.Batch.{Batch}
 use Rattle.pl_meaning.specs.Database.{Database}
 use Rattle.pl_meaning.specs.Opening.{apply_batches}
-use Rattle.pl_meaning.specs.Operation.{apply}
+use Rattle.pl_meaning.specs.Operation.{apply_all}
 use Rattle.pl_session.proofs.Opens.{after, apply_batches-append, leads_on}
 
 abbrev pub stored : List Batch → List Stored
 stored batches = map stored_of batches
 
 -- one batch more
-pub one_more : (xs : List Batch) (batch : Batch) (mid next : Database) → apply_batches (stored xs) [] ≡ Ok mid → apply batch.op mid ≡ Some next → apply_batches (stored (xs ++ batch ∷ [])) [] ≡ Ok next
-one_more xs batch mid next is done = ap (λ (l : List Stored). apply_batches l []) (map-append stored_of xs (batch ∷ [])) ∙ leads_on (stored xs) batch.at batch.op mid next is done
+pub one_more : (xs : List Batch) (batch : Batch) (mid next : Database) → apply_batches (stored xs) [] ≡ Ok mid → apply_all batch.ops.items mid ≡ Some next → apply_batches (stored (xs ++ batch ∷ [])) [] ≡ Ok next
+one_more xs batch mid next is done = ap (λ (l : List Stored). apply_batches l []) (map-append stored_of xs (batch ∷ [])) ∙ leads_on (stored xs) batch.at batch.ops.items mid next is done
 
 -- one that doesn't apply
-pub stops : (all xs ys : List Batch) (batch : Batch) (mid : Database) → all ≡ xs ++ (batch ∷ ys) → apply_batches (stored xs) [] ≡ Ok mid → apply batch.op mid ≡ None → apply_batches (stored all) [] ≡ Err batch.at
+pub stops : (all xs ys : List Batch) (batch : Batch) (mid : Database) → all ≡ xs ++ (batch ∷ ys) → apply_batches (stored xs) [] ≡ Ok mid → apply_all batch.ops.items mid ≡ None → apply_batches (stored all) [] ≡ Err batch.at
 stops all xs ys batch mid split is none =
     ap (λ (l : List Batch). apply_batches (stored l) []) split ∙ ap (λ (l : List Stored). apply_batches l []) (map-append stored_of xs (batch ∷ ys))
     ∙ apply_batches-append (stored xs) (stored (batch ∷ ys)) [] mid is ∙ ap (λ (o : Option Database). after (stored_of batch) (stored ys) o) none

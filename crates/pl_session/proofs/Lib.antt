@@ -1,6 +1,7 @@
 pub mod Named
 pub mod Planned
 pub mod Opens
+pub mod Applying
 pub mod Folding
 pub mod Begins
 pub mod Says

@@ -2,7 +2,7 @@
 use Rattle.std.proofs.Common.{◌≡◌, ◌≤◌, ◌<◌, ◌&&◌, ◌||◌, ℕ, zero, suc, ◌+◌, max, List, [], ◌∷◌, ◌++◌, length, set, get_or, cond, not, nat_eq, nat_lt, Bool, true, false, Option, Some, None, refl, sym, ◌∙◌, ap, arith}
 use Rattle.std.specs.Prelude.{◌==◌, option_map, is_some, if◌then◌else◌}
 use Rattle.std.specs.BTreeMap.{insert_entry, is_at}
-use Rattle.std.specs.Map.{lookup}
+use Rattle.std.specs.Map.{lookup, remove_entry}
 use Rattle.std.specs.Ordering.{is_eq}
 use Rattle.std.specs.Ordering.{nat_cmp}
 use Rattle.std.proofs.lemmas.List.{map-append, map-set}
@@ -11,7 +11,7 @@ use Rattle.std.specs.List.{position, position_or_len, prefix_len}
 use Rattle.std.specs.Cmp.Lexicographic.{pointwise}
 use Rattle.std.proofs.lemmas.Bool.Decides.{nat_tests}
 use Rattle.pl_base.specs.declared.value.Value.{Value}
-use Rattle.pl_meaning.specs.Database.{Database, Column, Object, TableObject, Table as TableValue, has, empty_table, define, fits, has_row, integer_column, with_row, MOST_ROWS, put_in, put_object, put, next_of}
+use Rattle.pl_meaning.specs.Database.{Database, Column, Object, TableObject, Table as TableValue, has, empty_table, define, fits, has_row, integer_column, with_row, without_row, MOST_ROWS, put_in, remove_in, in_object, in_table, next_of}
 use Rattle.pl_session.specs.Tables.{table_of, object_of, database_of, Becomes}
 use Rattle.pl_session.specs.declared.tables.Table.{Table}
 
@@ -37,26 +37,26 @@ module _ (name : List ℕ) where
       (elim (named t) as (λ (b : Bool). (cond (not b) (1 + prefix_len (λ (u : Table). not (named u)) tables) 0 < suc (length tables)) → cond b true (has name (database_of tables)) ≡ true)
       [ true ↦ λ h. refl | false ↦ λ h. has_some tables (omega (arith, h)) ]) below
 
-  put_none : (id : ℕ) (row : List Value) (tables : List Table) → length tables ≤ position_or_len named tables → put name id row (database_of tables) ≡ None
-  put_none id row [] long = refl
-  put_none id row (t ∷ tables) long =
+  in_none : (change : TableValue → Option TableValue) (tables : List Table) → length tables ≤ position_or_len named tables → in_table change name (database_of tables) ≡ None
+  in_none change [] long = refl
+  in_none change (t ∷ tables) long =
       (elim (named t) as (λ (b : Bool). (suc (length tables) ≤ cond (not b) (1 + prefix_len (λ (u : Table). not (named u)) tables) 0)
-      → cond b (option_map (λ (new : Object). new ∷ database_of tables) (put_object id row (object_of t))) (option_map (λ (rest : Database). object_of t ∷ rest) (put name id row (database_of tables))) ≡ None)
-      [ true ↦ λ h. absurd (omega (arith, h)) | false ↦ λ h. ap (λ (o : Option Database). option_map (λ (rest : Database). object_of t ∷ rest) o) (put_none id row tables (omega (arith, h))) ]) long
+      → cond b (option_map (λ (new : Object). new ∷ database_of tables) (in_object change (object_of t))) (option_map (λ (rest : Database). object_of t ∷ rest) (in_table change name (database_of tables))) ≡ None)
+      [ true ↦ λ h. absurd (omega (arith, h)) | false ↦ λ h. ap (λ (o : Option Database). option_map (λ (rest : Database). object_of t ∷ rest) o) (in_none change tables (omega (arith, h))) ]) long
 
-  put_at : (id : ℕ) (row : List Value) (tables : List Table) (at : ℕ) (d : Table) → at ≡ position_or_len named tables → at < length tables
-      → put name id row (database_of tables) ≡ option_map (λ (n : Object). set (database_of tables) at n) (put_object id row (object_of (get_or tables at d)))
-  put_at id row [] at d is below = absurd (omega (arith, below))
-  put_at id row (t ∷ tables) zero d is below =
+  in_at : (change : TableValue → Option TableValue) (tables : List Table) (at : ℕ) (d : Table) → at ≡ position_or_len named tables → at < length tables
+      → in_table change name (database_of tables) ≡ option_map (λ (n : Object). set (database_of tables) at n) (in_object change (object_of (get_or tables at d)))
+  in_at change [] at d is below = absurd (omega (arith, below))
+  in_at change (t ∷ tables) zero d is below =
       (elim (named t) as (λ (b : Bool). (0 ≡ cond (not b) (1 + prefix_len (λ (u : Table). not (named u)) tables) 0)
-      → cond b (option_map (λ (new : Object). new ∷ database_of tables) (put_object id row (object_of t))) (option_map (λ (rest : Database). object_of t ∷ rest) (put name id row (database_of tables))) ≡ option_map (λ (n : Object). n ∷ database_of tables) (put_object id row (object_of t)))
+      → cond b (option_map (λ (new : Object). new ∷ database_of tables) (in_object change (object_of t))) (option_map (λ (rest : Database). object_of t ∷ rest) (in_table change name (database_of tables))) ≡ option_map (λ (n : Object). n ∷ database_of tables) (in_object change (object_of t)))
       [ true ↦ λ h. refl | false ↦ λ h. absurd (omega (arith, h)) ]) is
-  put_at id row (t ∷ tables) (suc at) d is below =
+  in_at change (t ∷ tables) (suc at) d is below =
       (elim (named t) as (λ (b : Bool). (suc at ≡ cond (not b) (1 + prefix_len (λ (u : Table). not (named u)) tables) 0)
-      → cond b (option_map (λ (new : Object). new ∷ database_of tables) (put_object id row (object_of t))) (option_map (λ (rest : Database). object_of t ∷ rest) (put name id row (database_of tables)))
-      ≡ option_map (λ (n : Object). object_of t ∷ set (database_of tables) at n) (put_object id row (object_of (get_or tables at d)))) [
+      → cond b (option_map (λ (new : Object). new ∷ database_of tables) (in_object change (object_of t))) (option_map (λ (rest : Database). object_of t ∷ rest) (in_table change name (database_of tables)))
+      ≡ option_map (λ (n : Object). object_of t ∷ set (database_of tables) at n) (in_object change (object_of (get_or tables at d)))) [
         | true ↦ λ h. absurd (omega (arith, h))
-        | false ↦ λ h. ap (λ (o : Option Database). option_map (λ (rest : Database). object_of t ∷ rest) o) (put_at id row tables at d (omega (arith, h)) (omega (arith, below))) ∙ map_map (λ (n : Object). set (database_of tables) at n) (λ (rest : Database). object_of t ∷ rest) (put_object id row (object_of (get_or tables at d)))
+        | false ↦ λ h. ap (λ (o : Option Database). option_map (λ (rest : Database). object_of t ∷ rest) o) (in_at change tables at d (omega (arith, h)) (omega (arith, below))) ∙ map_map (λ (n : Object). set (database_of tables) at n) (λ (rest : Database). object_of t ∷ rest) (in_object change (object_of (get_or tables at d)))
       ]) is
     where
       map_map : {A B C : Type 0} (f : A → B) (g : B → C) (o : Option A) → option_map g (option_map f o) ≡ option_map (λ (x : A). g (f x)) o
@@ -104,19 +104,20 @@ module _ (name : List ℕ) where
         ap (λ (b : Bool). let o : Option Database = cond b None (Some (database_of tables ++ empty_table name (integer_column column) ∷ [])) in o) (has_none tables (at_none is))
         ∙ ap (λ (l : Database). let o : Option Database = Some l in o) (ap (λ (v : Object). database_of tables ++ v ∷ []) (sym made) ∙ sym (map-append object_of tables (t ∷ [])) ∙ ap (λ (l : List Table). database_of l) (sym grown))
 
-    pub put_absent : (id : ℕ) (row : List Value) → position named seen ≡ None → put name id row (database_of tables) ≡ None
-    put_absent id row is = put_none id row tables (at_none is)
+    pub absent : (change : TableValue → Option TableValue) → position named seen ≡ None → in_table change name (database_of tables) ≡ None
+    absent change is = in_none change tables (at_none is)
 
-    pub put_there : (id : ℕ) (row : List Value) (at : ℕ) (done : Bool) (t d : Table) → position named seen ≡ Some at → Becomes done (table_of (get_or tables at d)) (table_of t) (put_in id row (table_of (get_or tables at d)))
-        → Becomes done (database_of tables) (database_of (set tables at t)) (put name id row (database_of tables))
-    put_there id row at true t d is became =
+    -- the table of the name is changed so, or can't be
+    pub there : (change : TableValue → Option TableValue) (at : ℕ) (done : Bool) (t d : Table) → position named seen ≡ Some at → Becomes done (table_of (get_or tables at d)) (table_of t) (change (table_of (get_or tables at d)))
+        → Becomes done (database_of tables) (database_of (set tables at t)) (in_table change name (database_of tables))
+    there change at true t d is became =
         let p = at_some at is in
-        put_at id row tables at d (sym p.0) (omega (arith, p.0, p.1))
+        in_at change tables at d (sym p.0) (omega (arith, p.0, p.1))
         ∙ ap (λ (o : Option TableValue). option_map (λ (n : Object). set (database_of tables) at n) (option_map (λ (v : TableValue). TableObject v) o)) became
         ∙ ap (λ (l : Database). let o : Option Database = Some l in o) (sym (map-set object_of tables at t))
-    put_there id row at false t d is became =
+    there change at false t d is became =
         let p = at_some at is in (
-          put_at id row tables at d (sym p.0) (omega (arith, p.0, p.1))
+          in_at change tables at d (sym p.0) (omega (arith, p.0, p.1))
               ∙ ap (λ (o : Option TableValue). option_map (λ (n : Object). set (database_of tables) at n) (option_map (λ (v : TableValue). TableObject v) o)) became.0,
           map-set_same object_of tables at t d (ap (λ (v : TableValue). TableObject v) became.1),
         )
@@ -133,6 +134,22 @@ row_found id (row ∷ rows) =
     by_test : (b : Bool) (x : List Value) (o : Option (List Value)) → is_some o ≡ has_row id rows → is_some (let p : Option (List Value) = cond b (Some x) o in p) ≡ (b || has_row id rows)
     by_test true x o is = refl
     by_test false x o is = is
+
+-- the rows but for one
+pub rows_left : (id : ℕ) (rows : List (ℕ × List Value)) → remove_entry (is_at (nat_cmp id)) rows ≡ without_row id rows
+rows_left id [] = refl
+rows_left id (row ∷ rows) =
+    ap (λ (b : Bool). cond b rows (row ∷ remove_entry (is_at (nat_cmp id)) rows)) (at_same id row.0)
+    ∙ ap (λ (rest : List (ℕ × List Value)). cond (row.0 == id) rows (row ∷ rest)) (rows_left id rows)
+
+pub removed : (id : ℕ) (table : TableValue) (rows : List (ℕ × List Value)) → has_row id table.rows ≡ true → rows ≡ remove_entry (is_at (nat_cmp id)) table.rows
+    → remove_in id table ≡ Some (record table { rows = rows })
+removed id table rows has is =
+    ap (λ (b : Bool). if b then (let o : Option TableValue = Some (record table { rows = without_row id table.rows }) in o) else None) has
+    ∙ ap (λ (l : List (ℕ × List Value)). let o : Option TableValue = Some (record table { rows = l }) in o) (sym (is ∙ rows_left id table.rows))
+
+pub not_removed : (id : ℕ) (table : TableValue) → has_row id table.rows ≡ false → remove_in id table ≡ None
+not_removed id table has = ap (λ (b : Bool). if b then (let o : Option TableValue = Some (record table { rows = without_row id table.rows }) in o) else None) has
 
 module _ (id : ℕ) (row : List Value) (table : TableValue) (fit : fits table.columns row ≡ true) where
   abbrev room : Bool

@@ -2,14 +2,13 @@
 use Rattle.std.proofs.Common.{◌≡◌, inl, inr, ⊎_elim, ℕ, List, [], ◌∷◌, ◌++◌, Some, Ok, Result, refl, sym, ◌∙◌, ap, append_assoc}
 use Rattle.std.proofs.lemmas.List.{append-nil}
 use Rattle.pl_base.specs.Image.{Image}
-use Rattle.pl_base.specs.declared.operation.Op.{Op}
 use Rattle.pl_disk.specs.Disk.{View, Runs, Says}
 use Rattle.pl_disk.specs.declared.device.Failed.{Failed as Fault}
 use Rattle.pl_disk.specs.Lent.{runs_on, run_weaker, from_say, no_run}
-use Rattle.pl_keeper.specs.Store.{Committing}
+use Rattle.pl_keeper.specs.Store.{Head, CommittingPayload}
 use Rattle.pl_meaning.specs.Covered.{AlongFrom}
 use Rattle.pl_meaning.specs.Database.{Database}
-use Rattle.pl_meaning.specs.Operation.{apply}
+use Rattle.pl_meaning.specs.Operation.{apply_payload}
 use Rattle.pl_meaning.specs.Opening.{opens}
 use Rattle.pl_meaning.specs.Trace.{Event, Committed, Said, text, last_commit}
 use Rattle.pl_meaning.proofs.Lent.{longer, after}
@@ -19,18 +18,18 @@ use Rattle.pl_session.specs.State.{Stores}
 use Rattle.pl_session.specs.Steps.{AllOpen, Idle}
 use Rattle.pl_session.specs.declared.reply.Reply.{Reply}
 use Rattle.pl_session.specs.declared.reply.Reply.TheVariants as reply
-use Rattle.pl_session.proofs.Opens.{leads_on, opens_by}
+use Rattle.pl_session.proofs.Opens.{leads_on, opens_by, spelled_by}
 
-module _ (a b : View) (keeper : ℕ) (op : Op) (reply : List ℕ) (db next : Database) (store : a.told → Stores a.may_leave keeper db) (done : apply op db ≡ Some next) (first : Runs a b (λ p c. (p ≡ a.printed) × Committing a keeper op c)) where
+module _ (a b : View) (keeper : Head) (payload : List ℕ) (reply : List ℕ) (db next : Database) (store : a.told → Stores a.may_leave keeper db) (done : apply_payload payload db ≡ Some next) (first : Runs a b (λ p c. (p ≡ a.printed) × CommittingPayload a keeper payload c)) where
   abbrev both : List Event
   both = Committed next ∷ Said reply ∷ []
 
   pub commit_along : RunsAlong a b (Committed next ∷ Said reply ∷ []) db
   commit_along = run_weaker a b _ (AlongFrom a.printed both db) first
-      (λ told p c is. let s = store told in (
+      (λ told p c is. let s = store told in let it = spelled_by payload db next done in (
         [],
         is.0 ∙ sym (append-nil a.printed),
-        ⊎_elim (λ old. inl (refl, opens_by c s.list db old s.leads)) (λ now. inr (inl ((reply, refl), opens_by c (s.list ++ (keeper, op) ∷ []) next now (leads_on s.list keeper op db next s.leads done)))) (is.1.batches s.list s.store),
+        ⊎_elim (λ old. inl (refl, opens_by c keeper.area s.list db old s.leads)) (λ now. inr (inl ((reply, refl), opens_by c keeper.area (s.list ++ (keeper.end, it.0) ∷ []) next now (leads_on s.list keeper.end it.0 db next s.leads it.2)))) ((is.1 it.0 it.1).batches s.list s.store),
       ))
 
   pub said_after : (d : View) (result : Result Unit Fault) → (a.told → b.printed ≡ a.printed) → (a.told → (c : Image) → b.may_leave c → opens c ≡ Ok next) → Says reply b d result → RunsAlong a d (Committed next ∷ Said reply ∷ []) db

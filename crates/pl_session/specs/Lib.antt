@@ -7,5 +7,5 @@ pub mod Starts
 pub mod Endings
 pub mod Steps
 pub mod Scripts
-pub mod AreaB
+pub mod Spare
 pub mod Lent

@@ -1,9 +1,9 @@
 -- A session between two calls.
-use Rattle.std.specs.Prelude.{◌≡◌, ℕ, List, [], None, Ok}
+use Rattle.std.specs.Prelude.{◌≡◌, List, [], None, Ok}
 use Rattle.pl_base.specs.Image.{Image}
 use Rattle.pl_disk.specs.Disk.{View}
 use Rattle.pl_keeper.specs.Batches.{Stored}
-use Rattle.pl_keeper.specs.Store.{IsStore}
+use Rattle.pl_keeper.specs.Store.{Head, IsStore}
 use Rattle.pl_meaning.specs.Database.{Database}
 use Rattle.pl_meaning.specs.Opening.{apply_batches, opens}
 use Rattle.pl_session.specs.Tables.{database_of}
@@ -14,7 +14,7 @@ abbrev pub database_in : SessionState → Database
 database_in state = database_of state.tables.list.items
 
 -- every crash leaves a store of batches that lead to this database, and whose frames end at the keeper's place
-pub record Stores (may_leave : Image → Type 0) (keeper : ℕ) (db : Database) : Type 0 where
+pub record Stores (may_leave : Image → Type 0) (keeper : Head) (db : Database) : Type 0 where
   pub list : List Stored
   pub store : IsStore may_leave keeper list
   pub leads : apply_batches list [] ≡ Ok db

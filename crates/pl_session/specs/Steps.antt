@@ -1,7 +1,7 @@
 -- What the parts of a call do.
 use Rattle.std.specs.Prelude.{◌≡◌, [], List, Bool, Result, Ok, Err}
 use Rattle.pl_base.specs.Image.{Image}
-use Rattle.pl_base.specs.declared.area.Area.TheVariants.{A}
+use Rattle.pl_base.specs.declared.area.Area.{Area}
 use Rattle.pl_disk.specs.Disk.{View, Rises}
 use Rattle.pl_keeper.specs.Batches.{Stored}
 use Rattle.pl_meaning.specs.Database.{Database}
@@ -38,8 +38,8 @@ abbrev pub AllOpen : View → Database → Type 0
 AllOpen v db = v.told → (c : Image) → v.may_leave c → opens c ≡ Ok db
 
 -- the tables are what the batches lead to, and `Damaged` comes exactly at the first batch that doesn't apply
-abbrev pub IsFolded : List Stored → Result Tables StartFail → Type 0
-IsFolded list (Ok tables) = apply_batches list [] ≡ Ok (database_of tables.list.items)
-IsFolded list (Err (Damaged area at)) = (area ≡ A) × (apply_batches list [] ≡ Err at)
-IsFolded list (Err DiskFailed) = ⊥
-IsFolded list (Err NoMemory) = Unit {0}
+abbrev pub IsFolded : Area → List Stored → Result Tables StartFail → Type 0
+IsFolded in_ list (Ok tables) = apply_batches list [] ≡ Ok (database_of tables.list.items)
+IsFolded in_ list (Err (Damaged area at)) = (area ≡ in_) × (apply_batches list [] ≡ Err at)
+IsFolded in_ list (Err DiskFailed) = ⊥
+IsFolded in_ list (Err NoMemory) = Unit {0}

@@ -20,6 +20,11 @@ abbrev pub Becomes : {A : Type 0} → Bool → (old new : A) → (wanted : Optio
 Becomes true old new wanted = wanted ≡ Some new
 Becomes false old new wanted = (wanted ≡ None) × (new ≡ old)
 
+-- all of them were done, and lead to this value; or one of them doesn't apply
+abbrev pub AllApply : {A : Type 0} → Bool → (new : A) → (wanted : Option A) → Type 0
+AllApply true new wanted = wanted ≡ Some new
+AllApply false new wanted = wanted ≡ None
+
 -- the database after a change; None where it can't be made
 abbrev pub changed : Change → Database → Option Database
 changed (Create made) db = define_by (Some made) db

@@ -10,7 +10,8 @@ ghost use Rattle.pl_session.specs.Plans.{Plans, IsPlan};
 ghost use Rattle.pl_session.specs.Tables.{database_of};
 
 use crate::tables::{Change, Tables};
-use pl_base::{List, Memory, Name, Op, State, Txt, Value};
+use pl_base::{Bytes, List, Memory, Name, Op, State, Txt, Value};
+use pl_codec::encode;
 use pl_meaning::{Reading, number_in, table_by};
 use pl_print::Tag;
 use pl_tree::{Command, Definition, Insert};
@@ -23,10 +24,10 @@ pub enum Plan {
     Nothing,
     /// The error alone.
     Fails(State),
-    /// The change is made, its operation committed, and then the reply given; or where it can't be
-    /// made, the error.
+    /// The change is made, the payload that spells it committed, and then the reply given; or where
+    /// it can't be made, the error.
     Tries {
-        op: Op,
+        payload: Bytes,
         change: Change,
         reply: Tag,
         error: State,
@@ -51,7 +52,7 @@ fn plan_command(alloc: Global, tables: &Tables, command: Command) -> Result<Plan
         (database_of tables.now.list.items)) }
 {
     match command {
-        Command::Define { definition, source } => Ok(plan_create(tables, definition, source)),
+        Command::Define { definition, source } => plan_create(alloc, tables, definition, source),
         Command::Insert(insert) => plan_insert(alloc, tables, &insert),
         Command::Query(_)
         | Command::Update(_)
@@ -69,20 +70,28 @@ fn plan_command(alloc: Global, tables: &Tables, command: Command) -> Result<Plan
 }
 
 // The table that the definition makes, which is stored as its text.
-fn plan_create(tables: &Tables, definition: Definition, source: Txt) -> Plan
+fn plan_create(
+    alloc: Global,
+    tables: &Tables,
+    definition: Definition,
+    source: Txt,
+) -> Result<Plan, Memory>
     requires alike { definition_in source ≡ table_by definition source }
-    ensures { Plans (creates (table_by definition source) (database_of tables.now.list.items))
-        (database_of tables.now.list.items) result }
+    ensures { IfOk result (Plans
+        (creates (table_by definition source) (database_of tables.now.list.items))
+        (database_of tables.now.list.items)) }
 {
     let Some(made) = table_by(&definition, source.as_bytes()) else {
-        return Plan::Fails(State::FEATURE_NOT_SUPPORTED);
+        return Ok(Plan::Fails(State::FEATURE_NOT_SUPPORTED));
     };
-    Plan::Tries {
-        op: Op::Define { text: source },
+    let op = Op::Define { text: source };
+    let payload = encode(alloc, &op)?;
+    Ok(Plan::Tries {
+        payload,
         change: Change::Create(made),
         reply: Tag::CreateTable,
         error: State::DUPLICATE_TABLE,
-    }
+    })
 }
 
 fn plan_insert(alloc: Global, tables: &Tables, insert: &Insert) -> Result<Plan, Memory>
@@ -113,10 +122,10 @@ fn plan_row(alloc: Global, tables: &Tables, table: Name, number: i32) -> Result<
     let mut row = List::new(alloc);
     row.push(Value::Int(number))?;
     let op = Op::Put { table, id, row };
-    let change = Change::Apply(op.copy(alloc)?);
+    let payload = encode(alloc, &op)?;
     Ok(Plan::Tries {
-        op,
-        change,
+        payload,
+        change: Change::Apply(op),
         reply: Tag::Insert(1),
         error: State::PROGRAM_LIMIT_EXCEEDED,
     })

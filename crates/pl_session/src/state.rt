@@ -1,23 +1,24 @@
 //! A session: the database in memory, and the keeper of the store that holds it.
 
-ghost use Rattle.std.specs.Prelude.{true, ◌≡◌, ◌&&◌, ◌++◌, ◌∷◌, [], Some, None, Err, IfOk, IfErr, OnOk, IsErrOf};
-ghost use Rattle.pl_base.specs.Image.{Image};
-ghost use Rattle.pl_codec.specs.Spelling.{HasSpelling};
+ghost use Rattle.std.specs.Prelude.{true, ◌≡◌, ◌&&◌, ◌++◌, ◌∷◌, [], Some, None, Err, is_some, IfOk, IfErr, OnOk, IsErrOf};
+ghost use Rattle.pl_base.specs.Image.{Image, other};
+ghost use Rattle.pl_base.specs.declared.area.Area.{Area};
+ghost use Rattle.pl_codec.specs.Reading.{operations_of};
 ghost use Rattle.pl_disk.specs.Disk.{Runs, Settled, Untouched};
-ghost use Rattle.pl_keeper.specs.Batches.{Damage};
+ghost use Rattle.pl_keeper.specs.Batches.{Damage, spare_area};
 ghost use Rattle.pl_keeper.specs.Store.{all_stored};
 ghost use Rattle.pl_meaning.specs.Computed.{MeansAlike};
 ghost use Rattle.pl_meaning.specs.Database.{Database};
 ghost use Rattle.pl_meaning.specs.Meaning.{events, commits_or};
 ghost use Rattle.pl_meaning.specs.Opening.{opens};
-ghost use Rattle.pl_meaning.specs.Operation.{apply};
+ghost use Rattle.pl_meaning.specs.Operation.{apply_payload};
 ghost use Rattle.pl_meaning.specs.Replies.{error_line};
 ghost use Rattle.pl_meaning.specs.Trace.{Said, Committed, is_failed};
 ghost use Rattle.pl_print.specs.Tags.{tag_bytes};
-ghost use Rattle.pl_session.specs.AreaB.{KeepsAreaB};
 ghost use Rattle.pl_session.specs.Endings.{OfTrace, RunsAlong, GoesOn, StopsBy, HasCause, outcome_of, ended_of};
 ghost use Rattle.pl_session.specs.Plans.{Spells};
 ghost use Rattle.pl_session.specs.Replies.{line_of, event_of};
+ghost use Rattle.pl_session.specs.Spare.{KeepsArea, spare_in};
 ghost use Rattle.pl_session.specs.Starts.{StartPair, OpensSame, IsStarted, HasStartCause};
 ghost use Rattle.pl_session.specs.State.{database_in, Stores, IsReady};
 ghost use Rattle.pl_session.specs.Steps.{AllOpen, StepCause, StepEnd, IsFolded};
@@ -30,7 +31,7 @@ use crate::plan::{Plan, plan_of};
 use crate::reply::Reply;
 use crate::script::read_next;
 use crate::tables::{Change, Tables};
-use pl_base::{Area, Op, State};
+use pl_base::{Area, State};
 use pl_disk::Host;
 use pl_frames::FrameFail;
 use pl_keeper::{Batch, Keeper};
@@ -47,15 +48,15 @@ pub struct SessionState {
     failed: Option<Stop>,
 }
 
-// The tables after these batches.
-fn fold(alloc: Global, batches: Vec<Batch>) -> Result<Tables, StartFail>
-    ensures { IsFolded (all_stored batches.items) result }
+// The tables after these batches of an area.
+fn fold(alloc: Global, area: Area, batches: Vec<Batch>) -> Result<Tables, StartFail>
+    ensures { IsFolded area (all_stored batches.items) result }
 {
     let mut tables = Tables::new(alloc);
     for batch in batches {
-        let Batch { at, op } = batch;
-        if !tables.apply(op)? {
-            return Err(StartFail::Damaged { area: Area::A, at });
+        let Batch { at, ops } = batch;
+        if !tables.apply_all(ops)? {
+            return Err(StartFail::Damaged { area, at });
         }
     }
     Ok(tables)
@@ -70,8 +71,8 @@ fn answer<H: Host>(alloc: Global, host: &mut H, reply: Reply) -> Result<(), Stop
     ensures printed { (H.view host.old).told
         → OnOk result ((H.view host.new).printed ≡ (H.view host.old).printed ++ line_of reply) }
     ensures cause { IfErr result (StepCause (H.view host.old) (H.view host.new)) }
-    ensures area_b { (H.view host.old).told
-        → KeepsAreaB (H.view host.old) (H.view host.new) }
+    ensures files { (H.view host.old).told → (area : Area)
+        → KeepsArea area (H.view host.old) (H.view host.new) }
 {
     let line = reply.line(alloc)?;
     match host.say(line.as_slice()) {
@@ -80,35 +81,36 @@ fn answer<H: Host>(alloc: Global, host: &mut H, reply: Reply) -> Result<(), Stop
     }
 }
 
-// Commits an operation and then prints the reply.
+// Commits the operations of a payload and then prints the reply.
 fn commit_then_answer<H: Host>(
     keeper: &mut Keeper,
     alloc: Global,
     host: &mut H,
-    op: &Op,
+    payload: &[u8],
     reply: Tag,
 ) -> Result<(), Stop>
     requires attached { (H.view host.old).is_attached }
-    requires spelling { HasSpelling op.now }
+    requires spelling { is_some (operations_of payload.now) ≡ true }
     requires store { (H.view host.old).told
         → (db : Database) × Stores (H.view host.old).may_leave keeper.old db }
     ensures moments { (db next : Database)
         → ((H.view host.old).told → Stores (H.view host.old).may_leave keeper.old db)
-        → apply op.now db ≡ Some next
+        → apply_payload payload.now db ≡ Some next
         → RunsAlong (H.view host.old) (H.view host.new)
         (Committed next ∷ Said (tag_bytes reply) ∷ []) db }
     ensures store { (H.view host.old).told → OnOk result ((db next : Database)
         → Stores (H.view host.old).may_leave keeper.old db
-        → apply op.now db ≡ Some next
+        → apply_payload payload.now db ≡ Some next
         → Stores (H.view host.new).may_leave keeper.new next) }
     ensures printed { (H.view host.old).told
         → OnOk result ((H.view host.new).printed ≡ (H.view host.old).printed ++ tag_bytes reply) }
     ensures cause { IfErr result (StepCause (H.view host.old) (H.view host.new)) }
-    ensures area_b { (H.view host.old).told
-        → KeepsAreaB (H.view host.old) (H.view host.new) }
+    ensures area { keeper.new.area ≡ keeper.old.area }
+    ensures spare { (H.view host.old).told
+        → KeepsArea (other keeper.old.area) (H.view host.old) (H.view host.new) }
 {
     let line = Reply::Done(reply).line(alloc)?;
-    match keeper.commit(alloc, host, op) {
+    match keeper.commit_payload(alloc, host, payload) {
         Ok(()) => {}
         Err(FrameFail::Fault) => return Err(Stop::Disk),
         Err(FrameFail::Memory) => return Err(Stop::Memory),
@@ -125,12 +127,12 @@ fn commit_then_answer<H: Host>(
 fn try_change<H: Host>(
     state: &mut SessionState,
     host: &mut H,
-    op: &Op,
+    payload: &[u8],
     change: Change,
     reply: Tag,
     error: State,
 ) -> Result<bool, Stop>
-    requires spelled { Spells op.now change (database_in state.old) }
+    requires spelled { Spells payload.now change (database_in state.old) }
     requires ready { IsReady (H.view host.old) state.old }
     ensures moments { RunsAlong (H.view host.old) (H.view host.new)
         (commits_or (tag_bytes reply) (error_line error) (changed change (database_in state.old)))
@@ -138,14 +140,15 @@ fn try_change<H: Host>(
     ensures ended { StepEnd (H.view host.old) (H.view host.new) state.old state.new
         (commits_or (tag_bytes reply) (error_line error) (changed change (database_in state.old)))
         result }
-    ensures area_b { (H.view host.old).told
-        → KeepsAreaB (H.view host.old) (H.view host.new) }
+    ensures area { spare_in state.new ≡ spare_in state.old }
+    ensures spare { (H.view host.old).told
+        → KeepsArea (spare_in state.old) (H.view host.old) (H.view host.new) }
 {
     if !state.tables.change(change)? {
         answer(state.alloc, host, Reply::Fails(error))?;
         return Ok(true);
     }
-    commit_then_answer(&mut state.keeper, state.alloc, host, op, reply)?;
+    commit_then_answer(&mut state.keeper, state.alloc, host, payload, reply)?;
     Ok(false)
 }
 
@@ -157,7 +160,7 @@ fn ends_at(stops: bool, failed: bool) -> bool
 }
 
 impl SessionState {
-    /// Opens the store of an attached host, or makes a new one where area A is closed.
+    /// Opens the store of an attached host, or makes a new one where both areas are closed.
     ///
     /// `Disk` comes where a call of the disk failed. `Damaged` comes where the files are malformed,
     /// with the first such place; then they stay as they are.
@@ -178,15 +181,16 @@ impl SessionState {
         ensures started { IfOk result (IsStarted (H.view host.old) (H.view host.new)) }
         ensures cause { IfErr result (HasStartCause (H.view host.old) (H.view host.new)) }
 
-        // A store that does not open stays as it is, however the call ends, and area B always does.
+        // A store that does not open stays as it is, however the call ends. The area that doesn't
+        // count always does.
         ensures untouched { (H.view host.old).told → (damage : Damage)
             → opens (H.view host.old).seen ≡ Err damage
             → Untouched (H.view host.old) (H.view host.new) }
-        ensures area_b { (H.view host.old).told
-            → (H.view host.new).seen.b ≡ (H.view host.old).seen.b }
+        ensures spare { (H.view host.old).told → KeepsArea (spare_area (H.view host.old).seen)
+            (H.view host.old) (H.view host.new) }
     {
         let (keeper, batches) = Keeper::recover(alloc, host)?;
-        let tables = fold(alloc, batches)?;
+        let tables = fold(alloc, keeper.head().0, batches)?;
         Ok(SessionState {
             alloc,
             tables,
@@ -210,8 +214,9 @@ impl SessionState {
             (events reading (database_in self.old)) (database_in self.old) }
         ensures ended { StepEnd (H.view host.old) (H.view host.new) self.old self.new
             (events reading (database_in self.old)) result }
-        ensures area_b { (H.view host.old).told
-            → KeepsAreaB (H.view host.old) (H.view host.new) }
+        ensures area { spare_in self.new ≡ spare_in self.old }
+        ensures spare { (H.view host.old).told
+            → KeepsArea (spare_in self.old) (H.view host.old) (H.view host.new) }
     {
         match plan_of(self.alloc, &self.tables, reading)? {
             Plan::Nothing => Ok(false),
@@ -220,11 +225,11 @@ impl SessionState {
                 Ok(true)
             }
             Plan::Tries {
-                op,
+                payload,
                 change,
                 reply,
                 error,
-            } => try_change(self, host, &op, change, reply, error),
+            } => try_change(self, host, payload.as_slice(), change, reply, error),
         }
     }
 
@@ -247,8 +252,9 @@ impl SessionState {
         ensures ready { OnOk result (IsReady (H.view host.new) self.new) }
         ensures cause { IfErr result
             (StopsBy (H.view host.old) (H.view host.new) script.now stops (database_in self.old)) }
-        ensures area_b { (H.view host.old).told
-            → KeepsAreaB (H.view host.old) (H.view host.new) }
+        ensures area { spare_in self.new ≡ spare_in self.old }
+        ensures spare { (H.view host.old).told
+            → KeepsArea (spare_in self.old) (H.view host.old) (H.view host.new) }
     {
         let mut at = 0;
         'pieces: loop {
@@ -290,9 +296,10 @@ impl SessionState {
             (HasCause H.view host.old host.new self.old self.new text.now true) }
         ensures closed { (why : Stop) → self.old.failed ≡ Some why → IsErrOf result (Closed why) }
 
-        // Area B stays as it is.
-        ensures area_b { (H.view host.old).told
-            → KeepsAreaB (H.view host.old) (H.view host.new) }
+        // The area that doesn't count stays as it is, and doesn't count afterwards either.
+        ensures area { spare_in self.new ≡ spare_in self.old }
+        ensures spare { (H.view host.old).told
+            → KeepsArea (spare_in self.old) (H.view host.old) (H.view host.new) }
     {
         match self.run_script(host, text, true) {
             Ok(Ended::Whole) => Ok(Outcome::Fine),
@@ -333,9 +340,10 @@ impl SessionState {
             (HasCause H.view host.old host.new self.old self.new script.now stops_on_error) }
         ensures closed { (why : Stop) → self.old.failed ≡ Some why → IsErrOf result (Closed why) }
 
-        // Area B stays as it is.
-        ensures area_b { (H.view host.old).told
-            → KeepsAreaB (H.view host.old) (H.view host.new) }
+        // The area that doesn't count stays as it is, and doesn't count afterwards either.
+        ensures area { spare_in self.new ≡ spare_in self.old }
+        ensures spare { (H.view host.old).told
+            → KeepsArea (spare_in self.old) (H.view host.old) (H.view host.new) }
     {
         if let Some(why) = self.failed {
             return Err(Halt::Closed(why));

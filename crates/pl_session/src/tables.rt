@@ -1,13 +1,14 @@
 //! The database in memory.
 
-ghost use Rattle.std.specs.Prelude.{◌≡◌, ◌<◌, ◌^◌, ◌||◌, [], length, IfOk, nat_eq, nat_lt};
+ghost use Rattle.std.specs.Prelude.{◌≡◌, ◌<◌, ◌^◌, ◌&&◌, ◌||◌, [], length, IfOk, nat_eq, nat_le, nat_lt};
 ghost use Rattle.std.specs.List.{position};
 ghost use Rattle.std.specs.Cmp.Lexicographic.{pointwise};
 ghost use Rattle.pl_meaning.specs.Database as database;
-ghost use Rattle.pl_meaning.specs.Database.{fits, has_row, integer_column, put_in, put, define, next_of};
+ghost use Rattle.pl_meaning.specs.Database.{fits, has_row, integer_column, define, next_of};
+ghost use Rattle.pl_meaning.specs.Database.{put_in, put, remove_in, remove, raise_in, raise};
 ghost use Rattle.pl_base.specs.declared.operation.Op.TheVariants.{Define, Put};
-ghost use Rattle.pl_meaning.specs.Operation.{apply};
-ghost use Rattle.pl_session.specs.Tables.{table_of, database_of, changed, Becomes};
+ghost use Rattle.pl_meaning.specs.Operation.{apply, apply_all};
+ghost use Rattle.pl_session.specs.Tables.{table_of, database_of, changed, Becomes, AllApply};
 
 use pl_base::{Cells, Memory, Name, Op, Value};
 use pl_meaning::{IntegerTable, read_definition};
@@ -44,6 +45,37 @@ impl Table {
         self.next = self.next.max(id + 1);
         Ok(true)
     }
+
+    // Whether the row of this id was removed: it was there.
+    fn remove(&mut self, id: u64) -> bool
+        ensures { Becomes result (table_of self.old) (table_of self.new)
+            (remove_in id (table_of self.old)) }
+    {
+        if !self.rows.contains_key(&id) {
+            return false;
+        }
+        self.rows.remove(&id);
+        true
+    }
+
+    // Whether this is the next id now: it can be.
+    fn raise(&mut self, next: u64) -> bool
+        ensures { Becomes result (table_of self.old) (table_of self.new)
+            (raise_in next (table_of self.old)) }
+    {
+        if !can_be_next(self.next, next) {
+            return false;
+        }
+        self.next = next;
+        true
+    }
+}
+
+// Whether an id can be the next one behind the present one.
+fn can_be_next(present: u64, next: u64) -> bool
+    ensures { result ≡ (nat_le present next && nat_le next (2 ^ 63)) }
+{
+    present <= next && next <= 1 << 63
 }
 
 // Whether a row of this id is there, or one more can be.
@@ -110,6 +142,28 @@ impl Tables {
         Ok(done)
     }
 
+    // Whether a row was removed from the table of this name.
+    fn remove(&mut self, name: Name, id: u64) -> bool
+        ensures { Becomes result (database_of self.old.list.items)
+            (database_of self.new.list.items) (remove name id (database_of self.old.list.items)) }
+    {
+        let Some(at) = place_of(&self.list, name) else {
+            return false;
+        };
+        self.list[at].remove(id)
+    }
+
+    // Whether this became the next id of the table of this name.
+    fn raise(&mut self, name: Name, next: u64) -> bool
+        ensures { Becomes result (database_of self.old.list.items)
+            (database_of self.new.list.items) (raise name next (database_of self.old.list.items)) }
+    {
+        let Some(at) = place_of(&self.list, name) else {
+            return false;
+        };
+        self.list[at].raise(next)
+    }
+
     // Whether a table of this name was made.
     fn define(&mut self, name: Name, column: Name) -> Result<bool, Memory>
         ensures { IfOk result (λ done. Becomes done (database_of self.old.list.items)
@@ -160,9 +214,23 @@ impl Tables {
         match op {
             Op::Define { text } => self.define_by(text.as_bytes()),
             Op::Put { table, id, row } => self.put_by(table, id, row),
-            Op::Remove { .. } => Ok(false),
-            Op::Next { .. } => Ok(false),
+            Op::Remove { table, id } => Ok(self.remove(table, id)),
+            Op::Next { table, next } => Ok(self.raise(table, next)),
         }
+    }
+
+    /// Does these operations in order, if each applies, and says whether they all do. Where one
+    /// doesn't, those before it are done.
+    pub fn apply_all(&mut self, ops: Vec<Op>) -> Result<bool, Memory>
+        ensures { IfOk result (λ done. AllApply done (database_of self.new.list.items)
+            (apply_all ops.items (database_of self.old.list.items))) }
+    {
+        for op in ops {
+            if !self.apply(op)? {
+                return Ok(false);
+            }
+        }
+        Ok(true)
     }
 
     /// Makes a change, if it can be made, and says whether it was.

@@ -16,7 +16,8 @@ fn explain_problem(rt: &HostRuntime, problem: Option<Problem>, name: &str) -> io
     }
 }
 
-// Says what failed. Of words and a script that are refused the output has a line already.
+// Says what failed. Of words and a script that are refused, and of a damaged store, the output has a
+// line already.
 fn explain(
     rt: &HostRuntime,
     ending: Ending,
@@ -28,9 +29,10 @@ fn explain(
         Ending::Disk => explain_problem(rt, host.disk_problem(), line.store),
         Ending::Source => explain_problem(rt, source.problem(), line.script),
         Ending::Say => explain_problem(rt, host.say_problem(), line.store),
-        Ending::Damaged => eprintln!(rt; "plpg: {}: the store is damaged", line.store),
         Ending::Memory => eprintln!(rt; "{NO_MEMORY}"),
-        Ending::Whole | Ending::Usage | Ending::AtError | Ending::Refused => Ok(()),
+        Ending::Whole | Ending::Usage | Ending::AtError | Ending::Damaged | Ending::Refused => Ok(
+            (),
+        ),
     }
 }
 

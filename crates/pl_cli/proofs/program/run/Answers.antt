@@ -1,26 +1,30 @@
-use Rattle.std.proofs.Common.{◌≡◌, ◌⊎◌, ◌∙◌, ◌∷◌, [], Ok, List, ℕ, inl, inr, ⊎_elim, map, ap, sym, subst, string_bytes}
+use Rattle.std.proofs.Common.{◌≡◌, ◌⊎◌, ◌∙◌, ◌∷◌, ◌++◌, [], Ok, Err, List, ℕ, inl, inr, ⊎_elim, map, ap, refl, sym, subst, string_bytes}
 use Rattle.pl_meaning.specs.Database.{Database}
 use Rattle.pl_meaning.specs.Opening.{opens}
 use Rattle.pl_meaning.specs.Trace.{Event, Said}
-use Rattle.pl_session.specs.AreaB.{KeepsAreaB}
+use Rattle.pl_keeper.specs.Batches.{Damage, spare_area}
+use Rattle.pl_session.specs.Spare.{KeepsArea}
+use Rattle.pl_session.specs.Starts.{HasStartCause}
+use Rattle.pl_session.specs.declared.halt.StartFail.{StartFail}
+use Rattle.pl_base.specs.declared.area.Area.{Area}
 use Rattle.pl_session.specs.Endings.{Done}
-use Rattle.pl_session.specs.Lent.{area_b_on}
+use Rattle.pl_session.specs.Lent.{area_on}
 use Rattle.pl_session.specs.State.{database_in}
 use Rattle.pl_cli.specs.Covers.{CoveredRun}
 use Rattle.pl_cli.specs.Line.{Asked, asked}
 use Rattle.pl_cli.specs.Lines.{asked_in}
 use Rattle.pl_cli.specs.Parts.{SaysLast}
-use Rattle.pl_cli.specs.Printed.{refusal_line}
+use Rattle.pl_cli.specs.Printed.{damage_line, refusal_line}
 use Rattle.pl_cli.specs.declared.ending.Ending.TheVariants.{Whole, AtError, Memory, Refused}
 use Rattle.pl_cli.specs.declared.ending.Ending.{Ending}
 use Rattle.pl_disk.specs.Disk.{Runs}
 use Rattle.pl_meaning.specs.Covered.{AlongFrom}
 use Rattle.pl_meaning.specs.Meaning.{IsTrace}
 use Rattle.pl_base.specs.Image.{Image}
-use Rattle.pl_cli.specs.Runs.{HasCause, Over}
+use Rattle.pl_cli.specs.Runs.{AttachesScript, HasCause, IsEarly, OnlySays, Over}
 use Rattle.pl_cli.specs.Script.{IsRefusedAt, script_text}
 use Rattle.pl_cli.proofs.Covering.{done_since, idle_covers, not_begun, only_started, same_database, start_covers, then_covers}
-use Rattle.pl_cli.proofs.Runs.{area_b_said, cause_of, done_by, none_printed, not_disk, not_memory, one_asked, prints_since, prints_whole, refused_due, says_along, says_nothing, trace_of}
+use Rattle.pl_cli.proofs.Runs.{area_said, cause_of, done_by, ended_not_memory, ended_not_say, none_printed, not_disk, not_memory, not_read, not_usage, one_asked, prints_since, prints_whole, refused_due, same_damage, says_along, says_done, says_nothing, tells_at, tells_cause, tells_early, tells_only, tells_place, trace_of}
 use Rattle.pl_cli.proofs.Traces.{none_yet}
 use Rattle.pl_cli.proofs.program.run.Goals as goal
 
@@ -43,17 +47,82 @@ pub returns-in-Err-Memory-read_script-clause-covered : goal.returns-in-Err-Memor
 returns-in-Err-Memory-read_script-clause-covered g c db events over =
     start_covers _ _ _ (g.met.H.Disk.lawful c.args.host.now over.told) over.told c.start.ensures.moments (c.start.ensures.settled over.told) events db over.opened
 
-pub returns-in-Err-Disk-clause-damaged : goal.returns-in-Err-Disk-clause-damaged
-returns-in-Err-Disk-clause-damaged g c is_line told damage is =
-    says_nothing _ _ _ (g.met.H.Disk.lawful c.args.host.now told) told c.start.ensures.moments (c.start.ensures.untouched told damage is)
+pub returns-in-Err-Disk-clause-damaged_store : goal.returns-in-Err-Disk-clause-damaged_store
+returns-in-Err-Disk-clause-damaged_store g c is_line told damage is =
+    says_nothing _ _ _ _ (g.met.H.Disk.lawful c.args.host.now told) told c.start.ensures.moments (c.start.ensures.untouched told damage is)
+
+pub returns-in-Err-Memory-start-clause-damaged_store : goal.returns-in-Err-Memory-start-clause-damaged_store
+returns-in-Err-Memory-start-clause-damaged_store g c is_line told damage is =
+    says_nothing _ _ _ _ (g.met.H.Disk.lawful c.args.host.now told) told c.start.ensures.moments (c.start.ensures.untouched told damage is)
+
+pub returns-in-Err-Damaged-clause-damaged_store : goal.returns-in-Err-Damaged-clause-damaged_store
+returns-in-Err-Damaged-clause-damaged_store g c is_line told damage is =
+    let a = g.H.Disk.view c.args.host.now in
+    let d = g.H.Disk.view c.say_damage.new.host in
+    let line = damage_line c.in-Err-Damaged.area c.in-Err-Damaged.at in
+    let tells = tells_at g.H.Disk.view _ c.in-Err-Damaged.area _ c.in-Err-Damaged.at c.start.new.host c.say_damage.new.host c.say_damage.result c.in-Err-Damaged.area-is c.in-Err-Damaged.at-is c.say_damage.ensures in
+    let cause : (g.H.Disk.view c.args.host.now).told → opens (g.H.Disk.view c.args.host.now).seen ≡ Err (record { area = c.in-Err-Damaged.area; at = c.in-Err-Damaged.at }) =
+    subst (λ (f : StartFail). HasStartCause (g.H.Disk.view c.args.host.now) (g.H.Disk.view c.start.new.host) f) c.in-Err-Damaged.field-0-is c.in-Err-Damaged.ensures.cause in
+    subst (λ (x : Damage). OnlySays (damage_line x.area x.at) a d) (same_damage (opens a.seen) _ damage (cause told) is)
+    (tells_only g.H.Disk.view line a c.start.new.host c.say_damage.new.host c.say_damage.result tells _ (g.met.H.Disk.lawful c.args.host.now told) told (c.start.ensures.moments.continues.told told)
+    c.start.ensures.moments (c.start.ensures.untouched told damage is) (c.start.ensures.printed told))
 
 pub returns-in-Err-Damaged-clause-damaged : goal.returns-in-Err-Damaged-clause-damaged
-returns-in-Err-Damaged-clause-damaged g c is_line told damage is =
-    says_nothing _ _ _ (g.met.H.Disk.lawful c.args.host.now told) told c.start.ensures.moments (c.start.ensures.untouched told damage is)
+returns-in-Err-Damaged-clause-damaged g c ended told damage is =
+    let a = g.H.Disk.view c.args.host.now in
+    let d = g.H.Disk.view c.say_damage.new.host in
+    let line = damage_line c.in-Err-Damaged.area c.in-Err-Damaged.at in
+    let tells = tells_at g.H.Disk.view _ c.in-Err-Damaged.area _ c.in-Err-Damaged.at c.start.new.host c.say_damage.new.host c.say_damage.result c.in-Err-Damaged.area-is c.in-Err-Damaged.at-is c.say_damage.ensures in
+    let cause : (g.H.Disk.view c.args.host.now).told → opens (g.H.Disk.view c.args.host.now).seen ≡ Err (record { area = c.in-Err-Damaged.area; at = c.in-Err-Damaged.at }) =
+    subst (λ (f : StartFail). HasStartCause (g.H.Disk.view c.args.host.now) (g.H.Disk.view c.start.new.host) f) c.in-Err-Damaged.field-0-is c.in-Err-Damaged.ensures.cause in
+    subst (λ (x : Damage). d.printed ≡ a.printed ++ damage_line x.area x.at) (same_damage (opens a.seen) _ damage (cause told) is)
+    (tells_place g.H.Disk.view line a c.start.new.host c.say_damage.new.host c.say_damage.result tells (sym c.of-in-Err-Damaged.ensures.ending ∙ ended) (c.start.ensures.moments.continues.told told) (c.start.ensures.printed told))
 
-pub returns-in-Err-Memory-start-clause-damaged : goal.returns-in-Err-Memory-start-clause-damaged
-returns-in-Err-Memory-start-clause-damaged g c is_line told damage is =
-    says_nothing _ _ _ (g.met.H.Disk.lawful c.args.host.now told) told c.start.ensures.moments (c.start.ensures.untouched told damage is)
+pub returns-in-Err-Damaged-clause-cause : goal.returns-in-Err-Damaged-clause-cause
+returns-in-Err-Damaged-clause-cause g c =
+    let words = map string_bytes c.args.words.now in
+    let a = g.H.Disk.view c.args.host.now in
+    let d = g.H.Disk.view c.say_damage.new.host in
+    let left = g.S.Source.left c.args.source.now in
+    let faults = g.S.Source.faults c.args.source.now in
+    let line = damage_line c.in-Err-Damaged.area c.in-Err-Damaged.at in
+    let tells = tells_at g.H.Disk.view _ c.in-Err-Damaged.area _ c.in-Err-Damaged.at c.start.new.host c.say_damage.new.host c.say_damage.result c.in-Err-Damaged.area-is c.in-Err-Damaged.at-is c.say_damage.ensures in
+    let cause : (g.H.Disk.view c.args.host.now).told → opens (g.H.Disk.view c.args.host.now).seen ≡ Err (record { area = c.in-Err-Damaged.area; at = c.in-Err-Damaged.at }) =
+    subst (λ (f : StartFail). HasStartCause (g.H.Disk.view c.args.host.now) (g.H.Disk.view c.start.new.host) f) c.in-Err-Damaged.field-0-is c.in-Err-Damaged.ensures.cause in
+    subst (λ (e : Ending). HasCause e words a d left faults faults) (sym c.of-in-Err-Damaged.ensures.ending)
+    (tells_cause g.H.Disk.view line a c.start.new.host c.say_damage.new.host c.say_damage.result tells words left faults faults _ (asked_in c.in-Ok.line, c.in-Ok.ensures.line) cause c.start.ensures.moments.continues.say_faults)
+
+pub returns-in-Err-Damaged-clause-read : goal.returns-in-Err-Damaged-clause-read
+returns-in-Err-Damaged-clause-read g c ended script left =
+    let line = damage_line c.in-Err-Damaged.area c.in-Err-Damaged.at in
+    let tells = tells_at g.H.Disk.view _ c.in-Err-Damaged.area _ c.in-Err-Damaged.at c.start.new.host c.say_damage.new.host c.say_damage.result c.in-Err-Damaged.area-is c.in-Err-Damaged.at-is c.say_damage.ensures in
+    absurd (not_read _ (tells_early g.H.Disk.view line (g.H.Disk.view c.args.host.now) c.start.new.host c.say_damage.new.host c.say_damage.result tells)
+    (subst (λ (e : Ending). (e ≡ Whole) ⊎ (e ≡ AtError)) c.of-in-Err-Damaged.ensures.ending ended))
+
+pub returns-in-Err-Damaged-clause-usage : goal.returns-in-Err-Damaged-clause-usage
+returns-in-Err-Damaged-clause-usage g c ended told =
+    let line = damage_line c.in-Err-Damaged.area c.in-Err-Damaged.at in
+    let tells = tells_at g.H.Disk.view _ c.in-Err-Damaged.area _ c.in-Err-Damaged.at c.start.new.host c.say_damage.new.host c.say_damage.result c.in-Err-Damaged.area-is c.in-Err-Damaged.at-is c.say_damage.ensures in
+    absurd (not_usage _ (tells_early g.H.Disk.view line (g.H.Disk.view c.args.host.now) c.start.new.host c.say_damage.new.host c.say_damage.result tells) (sym c.of-in-Err-Damaged.ensures.ending ∙ ended))
+
+pub returns-in-Err-Damaged-clause-script : goal.returns-in-Err-Damaged-clause-script
+returns-in-Err-Damaged-clause-script g c =
+    let attached = g.S.Source.attached c.args.source.now in
+    let line = damage_line c.in-Err-Damaged.area c.in-Err-Damaged.at in
+    let tells = tells_at g.H.Disk.view _ c.in-Err-Damaged.area _ c.in-Err-Damaged.at c.start.new.host c.say_damage.new.host c.say_damage.result c.in-Err-Damaged.area-is c.in-Err-Damaged.at-is c.say_damage.ensures in
+    let early = tells_early g.H.Disk.view line (g.H.Disk.view c.args.host.now) c.start.new.host c.say_damage.new.host c.say_damage.result tells in
+    subst (λ o. AttachesScript o c.of-in-Err-Damaged.result.ending attached attached) (sym c.in-Ok.ensures.line)
+    (inr (subst (λ (e : Ending). IsEarly e) (sym c.of-in-Err-Damaged.ensures.ending) early, λ names is. is))
+
+pub returns-in-Err-Damaged-clause-spare : goal.returns-in-Err-Damaged-clause-spare
+returns-in-Err-Damaged-clause-spare g c told =
+    let a = g.H.Disk.view c.args.host.now in
+    let now = c.start.ensures.moments.continues.told told in
+    let first = c.start.ensures.spare told in
+    let line = damage_line c.in-Err-Damaged.area c.in-Err-Damaged.at in
+    let tells = tells_at g.H.Disk.view _ c.in-Err-Damaged.area _ c.in-Err-Damaged.at c.start.new.host c.say_damage.new.host c.say_damage.result c.in-Err-Damaged.area-is c.in-Err-Damaged.at-is c.say_damage.ensures in
+    ⊎_elim (λ says. area_on (spare_area a.seen) _ _ _ (g.met.H.Disk.lawful c.args.host.now told) (g.met.H.Disk.lawful c.start.new.host now) first (area_said (spare_area a.seen) _ _ _ _ _ now says))
+    (λ none. subst (λ h. KeepsArea (spare_area a.seen) a (g.H.Disk.view h)) (sym none.1) first) tells
 
 pub returns-in-Err-Memory-start-clause-memory : goal.returns-in-Err-Memory-start-clause-memory
 returns-in-Err-Memory-start-clause-memory g c is db events over =
@@ -93,18 +162,45 @@ returns-in-Err-Refused-clause-covered g c db events over =
     subst (λ h. CoveredRun a (g.H.Disk.view h) events db) (sym none.1) (start_covers a b c.in-Ok.line.store.now lawful over.told c.start.ensures.moments (c.start.ensures.settled over.told) events db over.opened))
     (subst (λ (k : ℕ). SaysLast (refusal_line k) Refused b d c.say_refusal.result ⊎ ((c.say_refusal.result ≡ Memory) × (c.say_refusal.new.host ≡ c.start.new.host))) c.in-Err-Refused.at-is c.say_refusal.ensures)
 
-pub returns-in-Err-Refused-clause-area_b : goal.returns-in-Err-Refused-clause-area_b
-returns-in-Err-Refused-clause-area_b g c told =
+pub returns-in-Err-Usage-clause-spare : goal.returns-in-Err-Usage-clause-spare
+returns-in-Err-Usage-clause-spare g c told = area_said _ _ _ _ _ _ told c.refuse_words.ensures.says
+
+pub returns-in-Err-Refused-clause-spare : goal.returns-in-Err-Refused-clause-spare
+returns-in-Err-Refused-clause-spare g c told =
+    let a = g.H.Disk.view c.args.host.now in
     let now = c.start.ensures.moments.continues.told told in
-    let first = c.start.ensures.area_b told in
-    ⊎_elim (λ says. area_b_on _ _ _ (g.met.H.Disk.lawful c.args.host.now told) (g.met.H.Disk.lawful c.start.new.host now) first (area_b_said _ _ _ _ _ now says))
-    (λ none. subst (λ h. KeepsAreaB (g.H.Disk.view c.args.host.now) (g.H.Disk.view h)) (sym none.1) first)
+    let first = c.start.ensures.spare told in
+    ⊎_elim (λ says. area_on (spare_area a.seen) _ _ _ (g.met.H.Disk.lawful c.args.host.now told) (g.met.H.Disk.lawful c.start.new.host now) first (area_said (spare_area a.seen) _ _ _ _ _ now says))
+    (λ none. subst (λ h. KeepsArea (spare_area a.seen) a (g.H.Disk.view h)) (sym none.1) first)
     c.say_refusal.ensures
 
-pub returns-clause-area_b : goal.returns-clause-area_b
-returns-clause-area_b g c told =
+pub returns-clause-spare : goal.returns-clause-spare
+returns-clause-spare g c told =
+    let a = g.H.Disk.view c.args.host.now in
+    let b = g.H.Disk.view c.start.new.host in
+    let d = g.H.Disk.view c.run_commands.new.host in
     let now = c.start.ensures.moments.continues.told told in
-    area_b_on _ _ _ (g.met.H.Disk.lawful c.args.host.now told) (g.met.H.Disk.lawful c.start.new.host now) (c.start.ensures.area_b told) (c.run_commands.ensures.area_b now)
+    let later = subst (λ (area : Area). KeepsArea area b d) (c.in-Ok-start.ensures.started.spare told) (c.run_commands.ensures.spare now) in
+    area_on (spare_area a.seen) _ _ _ (g.met.H.Disk.lawful c.args.host.now told) (g.met.H.Disk.lawful c.start.new.host now) (c.start.ensures.spare told) later
+
+pub returns-in-Err-Refused-clause-done : goal.returns-in-Err-Refused-clause-done
+returns-in-Err-Refused-clause-done g c ended db events over =
+    let at = c.in-Err-Refused.at in
+    let a = g.H.Disk.view c.args.host.now in
+    let b = g.H.Disk.view c.start.new.host in
+    let d = g.H.Disk.view c.say_refusal.new.host in
+    let read : IsRefusedAt over.script at = rw c.in-Err-Refused.field-0-is at (c.in-Err-Refused.ensures.read over.script over.reads) in
+    let started = c.in-Ok-start.ensures.started in
+    let now = c.start.ensures.moments.continues.told over.told in
+    let opened : (i : Image) → b.may_leave i → opens i ≡ Ok db = λ i left. started.ready.opens_to now i left ∙ sym (started.opened over.told) ∙ over.opened in
+    let end = subst (λ (e : Ending). (e ≡ Whole) ⊎ ((e ≡ AtError) ⊎ (e ≡ Refused))) c.of-in-Err-Refused.ensures.ending ended in
+    ⊎_elim
+    (λ (says : SaysLast (refusal_line at) Refused b d c.say_refusal.result).
+    subst (λ (l : List Event). Done a d l db) (refused_due over.script over.line.stops_on_error db events at read over.due)
+    (done_since a b d (Said (refusal_line at) ∷ []) db db refl (c.start.ensures.printed over.told)
+    (says_done b d (refusal_line at) Refused c.say_refusal.result db says now (ended_not_say c.say_refusal.result end) opened)))
+    (λ (none : (c.say_refusal.result ≡ Memory) × (c.say_refusal.new.host ≡ c.start.new.host)). absurd (ended_not_memory c.say_refusal.result end none.0))
+    (subst (λ (k : ℕ). SaysLast (refusal_line k) Refused b d c.say_refusal.result ⊎ ((c.say_refusal.result ≡ Memory) × (c.say_refusal.new.host ≡ c.start.new.host))) c.in-Err-Refused.at-is c.say_refusal.ensures)
 
 pub returns-in-Err-Refused-clause-memory : goal.returns-in-Err-Refused-clause-memory
 returns-in-Err-Refused-clause-memory g c is db events over =

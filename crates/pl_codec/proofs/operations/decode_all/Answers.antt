@@ -2,7 +2,7 @@ use Rattle.std.proofs.Common.{ℕ, List, Option, sym, subst, arith}
 use Rattle.pl_base.specs.declared.operation.Op.{Op}
 use Rattle.pl_codec.specs.Reading.{op_front}
 use Rattle.pl_codec.specs.Reads.{Reads, Takes}
-use Rattle.pl_codec.specs.Payload.{op_bytes, is_stored_op}
+use Rattle.pl_codec.specs.Spelling.{op_bytes, is_stored_op}
 use Rattle.pl_codec.proofs.ReadSoFar.{Taken, Operations, nothing_taken, one_taken, no_operations, bad_operation, one_operation, all_operations}
 use Rattle.pl_codec.proofs.operations.decode_all.Goals as goal
 

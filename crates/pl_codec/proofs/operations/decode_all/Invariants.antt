@@ -1,5 +1,5 @@
 use Rattle.std.proofs.Common.{length}
-use Rattle.pl_codec.specs.Payload.{op_bytes, is_stored_op}
+use Rattle.pl_codec.specs.Spelling.{op_bytes, is_stored_op}
 use Rattle.pl_codec.proofs.ReadSoFar.{Taken, Operations}
 use Rattle.pl_codec.proofs.operations.decode_all.Given as goal
 

@@ -1,7 +1,7 @@
 use Rattle.std.proofs.Common.{◌≡◌, ◌∷◌, [], ◌++◌, List, ℕ, take, ap, sym, ◌∙◌, subst}
 use Rattle.std.proofs.lemmas.List.{take_more, take_all}
 use Rattle.pl_base.specs.declared.operation.Op.{Op}
-use Rattle.pl_codec.specs.Payload.{op_bytes, is_stored_op, ops_bytes}
+use Rattle.pl_codec.specs.Spelling.{op_bytes, is_stored_op, ops_bytes}
 use Rattle.pl_codec.specs.Reading.{operations_of}
 use Rattle.pl_codec.proofs.ReadsBack.{EachOp, one_op_more, all_back}
 use Rattle.pl_codec.proofs.Pushed.{one_pushed, all_pushed, each_passes}

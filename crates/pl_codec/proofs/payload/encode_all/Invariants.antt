@@ -1,5 +1,5 @@
 use Rattle.std.proofs.Common.{◌≡◌, take}
-use Rattle.pl_codec.specs.Payload.{ops_bytes}
+use Rattle.pl_codec.specs.Spelling.{ops_bytes}
 use Rattle.pl_codec.proofs.ReadsBack.{EachOp}
 use Rattle.pl_codec.proofs.payload.encode_all.Given as goal
 

@@ -1,7 +1,7 @@
 use Rattle.std.proofs.Common.{◌∷◌, [], ◌++◌, take, ap, sym, ◌∙◌, subst}
 use Rattle.std.proofs.lemmas.List.{take_more, take_all}
 use Rattle.pl_base.specs.declared.value.Value.{Value}
-use Rattle.pl_codec.specs.Payload.{value_bytes, is_stored_value}
+use Rattle.pl_codec.specs.Spelling.{value_bytes, is_stored_value}
 use Rattle.pl_codec.proofs.ReadsBack.{EachValue, one_value_more, values_back}
 use Rattle.pl_codec.proofs.Pushed.{one_pushed, all_pushed, each_passes}
 use Rattle.pl_codec.proofs.payload.push_values.Goals as goal

@@ -1,6 +1,6 @@
 use Rattle.std.proofs.Common.{◌≡◌, ◌++◌, take}
 use Rattle.std.specs.List.{flat_map}
-use Rattle.pl_codec.specs.Payload.{value_bytes}
+use Rattle.pl_codec.specs.Spelling.{value_bytes}
 use Rattle.pl_codec.proofs.ReadsBack.{EachValue}
 use Rattle.pl_codec.proofs.payload.push_values.Given as goal
 

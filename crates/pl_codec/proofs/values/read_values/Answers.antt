@@ -2,7 +2,7 @@ use Rattle.std.proofs.Common.{◌≡◌, ◌∙◌, ◌+◌, ◌++◌, ◌∷◌
 use Rattle.pl_base.specs.declared.value.Value.{Value}
 use Rattle.pl_codec.specs.Reading.{value_front}
 use Rattle.pl_codec.specs.Reads.{Reads, Takes}
-use Rattle.pl_codec.specs.Payload.{value_bytes, is_stored_value}
+use Rattle.pl_codec.specs.Spelling.{value_bytes, is_stored_value}
 use Rattle.pl_codec.proofs.ReadSoFar.{Taken, Values, nothing_taken, one_taken, no_values, bad_value, one_value, all_values}
 use Rattle.pl_codec.proofs.values.read_values.Goals as goal
 

@@ -1,5 +1,5 @@
 use Rattle.std.proofs.Common.{◌≡◌, length}
-use Rattle.pl_codec.specs.Payload.{value_bytes, is_stored_value}
+use Rattle.pl_codec.specs.Spelling.{value_bytes, is_stored_value}
 use Rattle.pl_codec.proofs.ReadSoFar.{Taken, Values}
 use Rattle.pl_codec.proofs.values.read_values.Given as goal
 

@@ -1,48 +1,64 @@
 use Rattle.std.proofs.Common.{◌≡◌, ◌∙◌, List, ℕ, subst}
+use Rattle.pl_base.specs.Image.{other}
+use Rattle.pl_codec.specs.Reading.{operations_of}
 use Rattle.pl_disk.specs.Disk.{Says}
 use Rattle.pl_print.specs.Tags.{tag_bytes}
-use Rattle.pl_session.specs.Lent.{area_b_on, area_b_said, area_b_wrote}
-use Rattle.pl_session.proofs.Opens.{stores_on, stores_still, stores_open}
+use Rattle.pl_session.specs.Lent.{area_on, area_said, area_wrote}
+use Rattle.pl_session.proofs.Opens.{some_of, stores_on, stores_still, stores_open}
 use Rattle.pl_session.proofs.Says.{commit_along, said_after}
 use Rattle.pl_session.proofs.state.commit_then_answer.Goals as goal
 
 pub returns-in-Err-Fault-clause-moments : goal.returns-in-Err-Fault-clause-moments
-returns-in-Err-Fault-clause-moments g c db next store done = commit_along _ _ c.args.keeper.now c.args.op.now (tag_bytes c.args.reply) db next store done c.commit.ensures.writes.moments
+returns-in-Err-Fault-clause-moments g c db next store done = commit_along _ _ c.args.keeper.now c.args.payload.now (tag_bytes c.args.reply) db next store done c.commit_payload.ensures.writes.moments
 
 pub returns-in-Ok-say-clause-moments : goal.returns-in-Ok-say-clause-moments
 returns-in-Ok-say-clause-moments g c db next store done =
     let a = g.H.Disk.view c.args.host.now in
-    let b = g.H.Disk.view c.commit.new.disk in
+    let b = g.H.Disk.view c.commit_payload.new.disk in
     let line : c.as_slice.result.now ≡ tag_bytes c.args.reply = c.as_slice.ensures ∙ c.in_ok-line.ensures in
-    said_after a b c.args.keeper.now c.args.op.now (tag_bytes c.args.reply) db next store done c.commit.ensures.writes.moments _ c.say.result c.commit.ensures.writes.printed
-    (λ told. stores_open b.may_leave c.commit.new.self next (stores_on a b c.args.keeper.now c.commit.new.self c.args.op.now db next (c.in-Ok.ensures.committed told) (store told) done))
+    said_after a b c.args.keeper.now c.args.payload.now (tag_bytes c.args.reply) db next store done c.commit_payload.ensures.writes.moments _ c.say.result c.commit_payload.ensures.writes.printed
+    (λ told. stores_open b.may_leave c.commit_payload.new.self next (stores_on a b c.args.keeper.now c.commit_payload.new.self c.args.payload.now db next (c.in-Ok.ensures.committed told) (store told) done))
     (subst (λ (l : List ℕ). Says l b (g.H.Disk.view c.say.new.self) c.say.result) line c.say.ensures)
 
 pub returns-in-Ok-say-clause-store : goal.returns-in-Ok-say-clause-store
 returns-in-Ok-say-clause-store g c told db next stores done =
     let a = g.H.Disk.view c.args.host.now in
-    let b = g.H.Disk.view c.commit.new.disk in
+    let b = g.H.Disk.view c.commit_payload.new.disk in
     let d = g.H.Disk.view c.say.new.self in
-    stores_still b.may_leave d.may_leave c.commit.new.self next (c.say.ensures.images (c.commit.ensures.writes.moments.continues.told told)).crash
-    (stores_on a b c.args.keeper.now c.commit.new.self c.args.op.now db next (c.in-Ok.ensures.committed told) stores done)
+    stores_still b.may_leave d.may_leave c.commit_payload.new.self next (c.say.ensures.images (c.commit_payload.ensures.writes.moments.continues.told told)).crash
+    (stores_on a b c.args.keeper.now c.commit_payload.new.self c.args.payload.now db next (c.in-Ok.ensures.committed told) stores done)
 
 pub returns-clause-moments : goal.returns-clause-moments
 returns-clause-moments g c db next store done =
     let a = g.H.Disk.view c.args.host.now in
-    let b = g.H.Disk.view c.commit.new.disk in
+    let b = g.H.Disk.view c.commit_payload.new.disk in
     let line : c.as_slice.result.now ≡ tag_bytes c.args.reply = c.as_slice.ensures ∙ c.in_ok-line.ensures in
-    said_after a b c.args.keeper.now c.args.op.now (tag_bytes c.args.reply) db next store done c.commit.ensures.writes.moments _ c.say.result c.commit.ensures.writes.printed
-    (λ told. stores_open b.may_leave c.commit.new.self next (stores_on a b c.args.keeper.now c.commit.new.self c.args.op.now db next (c.in-Ok.ensures.committed told) (store told) done))
+    said_after a b c.args.keeper.now c.args.payload.now (tag_bytes c.args.reply) db next store done c.commit_payload.ensures.writes.moments _ c.say.result c.commit_payload.ensures.writes.printed
+    (λ told. stores_open b.may_leave c.commit_payload.new.self next (stores_on a b c.args.keeper.now c.commit_payload.new.self c.args.payload.now db next (c.in-Ok.ensures.committed told) (store told) done))
     (subst (λ (l : List ℕ). Says l b (g.H.Disk.view c.say.new.self) c.say.result) line c.say.ensures)
 
-pub returns-in-Ok-say-clause-area_b : goal.returns-in-Ok-say-clause-area_b
-returns-in-Ok-say-clause-area_b g c told =
-    let now = c.commit.ensures.writes.moments.continues.told told in
-    area_b_on _ _ _ (g.met.H.Disk.lawful c.args.host.now told) (g.met.H.Disk.lawful c.commit.new.disk now)
-    (area_b_wrote _ _ _ told c.commit.ensures.writes (λ i is. is.area_b) (c.commit.ensures.area_b told)) (area_b_said _ _ _ _ now c.say.ensures)
+pub returns-in-Err-Fault-clause-spare : goal.returns-in-Err-Fault-clause-spare
+returns-in-Err-Fault-clause-spare g c told =
+    let ops = some_of (operations_of c.args.payload.now) c.requires.spelling in
+    area_wrote (other c.args.keeper.now.area) _ _ _ told c.commit_payload.ensures.writes (λ i is. (is ops.0 ops.1).rest) (c.commit_payload.ensures.rest told)
 
-pub returns-clause-area_b : goal.returns-clause-area_b
-returns-clause-area_b g c told =
-    let now = c.commit.ensures.writes.moments.continues.told told in
-    area_b_on _ _ _ (g.met.H.Disk.lawful c.args.host.now told) (g.met.H.Disk.lawful c.commit.new.disk now)
-    (area_b_wrote _ _ _ told c.commit.ensures.writes (λ i is. is.area_b) (c.commit.ensures.area_b told)) (area_b_said _ _ _ _ now c.say.ensures)
+pub returns-in-Err-Memory-clause-spare : goal.returns-in-Err-Memory-clause-spare
+returns-in-Err-Memory-clause-spare g c told =
+    let ops = some_of (operations_of c.args.payload.now) c.requires.spelling in
+    area_wrote (other c.args.keeper.now.area) _ _ _ told c.commit_payload.ensures.writes (λ i is. (is ops.0 ops.1).rest) (c.commit_payload.ensures.rest told)
+
+pub returns-in-Ok-say-clause-spare : goal.returns-in-Ok-say-clause-spare
+returns-in-Ok-say-clause-spare g c told =
+    let ops = some_of (operations_of c.args.payload.now) c.requires.spelling in
+    let now = c.commit_payload.ensures.writes.moments.continues.told told in
+    area_on (other c.args.keeper.now.area) _ _ _ (g.met.H.Disk.lawful c.args.host.now told) (g.met.H.Disk.lawful c.commit_payload.new.disk now)
+    (area_wrote (other c.args.keeper.now.area) _ _ _ told c.commit_payload.ensures.writes (λ i is. (is ops.0 ops.1).rest) (c.commit_payload.ensures.rest told))
+    (area_said (other c.args.keeper.now.area) _ _ _ _ now c.say.ensures)
+
+pub returns-clause-spare : goal.returns-clause-spare
+returns-clause-spare g c told =
+    let ops = some_of (operations_of c.args.payload.now) c.requires.spelling in
+    let now = c.commit_payload.ensures.writes.moments.continues.told told in
+    area_on (other c.args.keeper.now.area) _ _ _ (g.met.H.Disk.lawful c.args.host.now told) (g.met.H.Disk.lawful c.commit_payload.new.disk now)
+    (area_wrote (other c.args.keeper.now.area) _ _ _ told c.commit_payload.ensures.writes (λ i is. (is ops.0 ops.1).rest) (c.commit_payload.ensures.rest told))
+    (area_said (other c.args.keeper.now.area) _ _ _ _ now c.say.ensures)

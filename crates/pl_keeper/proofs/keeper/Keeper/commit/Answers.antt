@@ -1,29 +1,24 @@
-use Rattle.std.proofs.Common.{◌≡◌, ◌∙◌, ap, subst, ℕ, Some}
-use Rattle.pl_codec.specs.Spelling.{operation_of}
-use Rattle.pl_disk.specs.Disk.{Writes}
-use Rattle.pl_keeper.specs.Store.{Committing, Committed}
-use Rattle.pl_keeper.proofs.Appends.{commit_run, all_committed}
+use Rattle.std.proofs.Common.{◌≡◌, ◌∙◌, ap, Some, Result, Ok, Err}
+use Rattle.std.specs.Prelude.{is_some, OnOk}
+use Rattle.pl_codec.specs.Reading.{operations_of}
+use Rattle.pl_disk.specs.Lent.{writes_weaker}
+use Rattle.pl_keeper.specs.Store.{Committing}
 use Rattle.pl_keeper.proofs.keeper.Keeper.commit.Goals as goal
 
-pub returns-in_err-self-inside-clause-writes : goal.returns-in_err-self-inside-clause-writes
-returns-in_err-self-inside-clause-writes g c =
-    let spelled : operation_of c.as_slice.result.now ≡ Some c.args.op.now = ap operation_of c.as_slice.ensures ∙ c.in_ok-payload.ensures.read_back in
-    let a = g.D.Disk.view c.args.disk.now in
-    subst (λ (k : ℕ). Writes a (g.D.Disk.view c.append.new.disk) (Committing a k c.args.op.now)) c.self.view_is
-    (commit_run c.args.op.now c.as_slice.result.now spelled _ _ c.self.inside.end c.self.invariant c.append.ensures.fits c.append.ensures.writes)
+pub commit_payload-requires-clause-spelling : goal.commit_payload-requires-clause-spelling
+commit_payload-requires-clause-spelling g c = ap (λ o. is_some o) (ap operations_of c.as_slice.ensures ∙ c.in_ok-payload.ensures.read_back)
 
 pub returns-clause-writes : goal.returns-clause-writes
 returns-clause-writes g c =
-    let spelled : operation_of c.as_slice.result.now ≡ Some c.args.op.now = ap operation_of c.as_slice.ensures ∙ c.in_ok-payload.ensures.read_back in
     let a = g.D.Disk.view c.args.disk.now in
-    subst (λ (k : ℕ). Writes a (g.D.Disk.view c.append.new.disk) (Committing a k c.args.op.now)) c.self.view_is
-    (commit_run c.args.op.now c.as_slice.result.now spelled _ _ c.self.inside.end c.self.invariant c.append.ensures.fits c.append.ensures.writes)
+    let spelled : operations_of c.as_slice.result.now ≡ Some c.args.ops.now = ap operations_of c.as_slice.ensures ∙ c.in_ok-payload.ensures.read_back in
+    writes_weaker a _ _ (Committing a c.args.self.now c.args.ops.now) c.commit_payload.ensures.writes (λ told i is. is c.args.ops.now spelled)
 
 pub returns-clause-committed : goal.returns-clause-committed
 returns-clause-committed g c told =
-    let spelled : operation_of c.as_slice.result.now ≡ Some c.args.op.now = ap operation_of c.as_slice.ensures ∙ c.in_ok-payload.ensures.read_back in
-    let a = g.D.Disk.view c.args.disk.now in
-    let d = g.D.Disk.view c.append.new.disk in
-    let end = c.in_ok-self-inside.ensures.end in
-    subst (λ (k : ℕ). Committed a d k c.in_ok-self-inside.field-0 c.args.op.now) c.self.view_is
-    (all_committed c.args.op.now c.as_slice.result.now spelled a d c.self.inside.end c.in_ok-self-inside.field-0 c.self.invariant end.1 (g.met.D.Disk.lawful c.args.disk.now told) (c.in_ok-self-inside.ensures.appended told))
+    let spelled : operations_of c.as_slice.result.now ≡ Some c.args.ops.now = ap operations_of c.as_slice.ensures ∙ c.in_ok-payload.ensures.read_back in
+    on_ok c.commit_payload.result _ _ (λ done. done c.args.ops.now spelled) (c.commit_payload.ensures.committed told)
+  where
+    on_ok : {T E : Type 0} (r : Result T E) (P Q : Type 0) → (P → Q) → OnOk r P → OnOk r Q
+    on_ok (Ok x) P Q on is = on is
+    on_ok (Err e) P Q on is = tt

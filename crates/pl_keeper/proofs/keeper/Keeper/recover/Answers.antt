@@ -1,4 +1,4 @@
-use Rattle.pl_keeper.proofs.Starts.{settled, same_b}
+use Rattle.pl_keeper.proofs.Starts.{settled, same_b, recovers, recovered}
 use Rattle.pl_keeper.proofs.keeper.Keeper.recover.Goals as goal
 
 pub returns-in_err-found-clause-settled : goal.returns-in_err-found-clause-settled
@@ -26,3 +26,19 @@ returns-clause-area_b g c told =
     let last = c.open_store.ensures.writes.moments.continues.told mid in
     same_b (g.D.Disk.view c.args.disk.now) (g.D.Disk.view c.sync.new.self) (g.D.Disk.view c.open_store.new.disk) (g.met.D.Disk.lawful c.sync.new.self mid) (g.met.D.Disk.lawful c.open_store.new.disk last) mid (c.sync.ensures.seen told)
     (c.in_ok-sync.ensures.durable told) c.open_store.ensures.writes
+
+pub returns-in_err-found-clause-writes : goal.returns-in_err-found-clause-writes
+returns-in_err-found-clause-writes g c =
+    recovers (g.D.Disk.view c.args.disk.now) (g.D.Disk.view c.sync.new.self) (g.D.Disk.view c.open_store.new.disk) c.sync.result c.sync.ensures.call c.sync.ensures.seen (g.met.D.Disk.lawful c.args.disk.now) c.sync.ensures.crash
+    c.open_store.ensures.writes
+
+pub returns-clause-writes : goal.returns-clause-writes
+returns-clause-writes g c =
+    recovers (g.D.Disk.view c.args.disk.now) (g.D.Disk.view c.sync.new.self) (g.D.Disk.view c.open_store.new.disk) c.sync.result c.sync.ensures.call c.sync.ensures.seen (g.met.D.Disk.lawful c.args.disk.now) c.sync.ensures.crash
+    c.open_store.ensures.writes
+
+pub returns-clause-recovered : goal.returns-clause-recovered
+returns-clause-recovered g c told =
+    let mid = c.sync.ensures.call.continues.told told in
+    recovered (g.D.Disk.view c.args.disk.now) (g.D.Disk.view c.sync.new.self) (g.D.Disk.view c.open_store.new.disk) c.sync.result c.sync.ensures.call c.sync.ensures.seen c.in_ok-found.found told (c.in_ok-sync.ensures.settled told)
+    (c.open_store.ensures.writes.moments.synced mid) (c.in_ok-found.ensures.opened mid)

@@ -1,12 +1,14 @@
 use Rattle.std.proofs.Common.{◌≡◌, ◌<◌, ◌≤◌, ◌&&◌, [], List, length, Option, Bool, true, false, refl, sym, ◌∙◌, ap, subst, arith}
 use Rattle.std.specs.Prelude.{IfSome}
+use Rattle.pl_base.specs.declared.area.Area.{Area}
 use Rattle.pl_disk.specs.Lent.{no_call}
 use Rattle.pl_meaning.specs.Meaning.{events}
 use Rattle.pl_meaning.specs.Trace.{Event, is_failed}
 use Rattle.pl_meaning.proofs.Lent.{of_trace}
-use Rattle.pl_session.specs.Lent.{area_b_on, area_b_still}
 use Rattle.pl_session.specs.Endings.{RunsAlong, GoesOn, StopsBy, ended_of}
+use Rattle.pl_session.specs.Lent.{area_on, area_still}
 use Rattle.pl_session.specs.Scripts.{IsNextReading}
+use Rattle.pl_session.specs.Spare.{KeepsArea, spare_in}
 use Rattle.pl_session.specs.State.{database_in}
 use Rattle.pl_session.specs.declared.halt.Ended.{Ended}
 use Rattle.pl_session.specs.declared.halt.Stop.{Stop}
@@ -20,7 +22,8 @@ pub pieces-init : goal.pieces-init
 pieces-init g c = record {
   within = omega arith;
   ready = c.requires.ready;
-  area_b = λ told. area_b_still (g.H.Disk.view c.args.host.now);
+  area = refl;
+  spare = λ told. area_still (spare_in c.args.self.now) (g.H.Disk.view c.args.host.now);
   progress = no_piece (g.H.Disk.view c.args.host.now) c.args.stops c.args.script.now (database_in c.args.self.now);
 }
 
@@ -120,16 +123,28 @@ pieces-preserved g c =
     record {
       within = on.1;
       ready = done.ready;
-      area_b = λ told. let now = was.moments.continues.told told in area_b_on _ _ _ (g.met.H.Disk.lawful c.args.host.now told) (g.met.H.Disk.lawful c.pieces.host now) (c.pieces.invariant.area_b told) (c.run_reading.ensures.area_b now);
+      area = c.run_reading.ensures.area ∙ c.pieces.invariant.area;
+      spare = λ told.
+          let now = c.pieces.invariant.progress.moments.continues.told told in
+          let later = subst (λ (area : Area). KeepsArea area (g.H.Disk.view c.pieces.host) (g.H.Disk.view c.run_reading.new.host)) c.pieces.invariant.area (c.run_reading.ensures.spare now) in
+          area_on (spare_in c.args.self.now) _ _ _ (g.met.H.Disk.lawful c.args.host.now told) (g.met.H.Disk.lawful c.pieces.host now) (c.pieces.invariant.spare told) later;
       progress = one_piece _ _ _ _ _ _ _ was _ c.in-Some.next.reading next.0 next.1 c.run_reading.ensures.moments _ _ next.2 goes_on (λ t. done.printed (was.moments.continues.told t)) done.database;
     }
 
-pub returns-in_err-failed-clause-area_b : goal.returns-in_err-failed-clause-area_b
-returns-in_err-failed-clause-area_b g c told =
+pub returns-in_err-failed-clause-spare : goal.returns-in_err-failed-clause-spare
+returns-in_err-failed-clause-spare g c told =
     let now = c.pieces.invariant.progress.moments.continues.told told in
-    area_b_on _ _ _ (g.met.H.Disk.lawful c.args.host.now told) (g.met.H.Disk.lawful c.pieces.host now) (c.pieces.invariant.area_b told) (c.run_reading.ensures.area_b now)
+    let later = subst (λ (area : Area). KeepsArea area (g.H.Disk.view c.pieces.host) (g.H.Disk.view c.run_reading.new.host)) c.pieces.invariant.area (c.run_reading.ensures.spare now) in
+    area_on (spare_in c.args.self.now) _ _ _ (g.met.H.Disk.lawful c.args.host.now told) (g.met.H.Disk.lawful c.pieces.host now) (c.pieces.invariant.spare told) later
 
-pub returns-then-ends_at-clause-area_b : goal.returns-then-ends_at-clause-area_b
-returns-then-ends_at-clause-area_b g c told =
+pub returns-in_err-failed-clause-area : goal.returns-in_err-failed-clause-area
+returns-in_err-failed-clause-area g c = c.run_reading.ensures.area ∙ c.pieces.invariant.area
+
+pub returns-then-ends_at-clause-spare : goal.returns-then-ends_at-clause-spare
+returns-then-ends_at-clause-spare g c told =
     let now = c.pieces.invariant.progress.moments.continues.told told in
-    area_b_on _ _ _ (g.met.H.Disk.lawful c.args.host.now told) (g.met.H.Disk.lawful c.pieces.host now) (c.pieces.invariant.area_b told) (c.run_reading.ensures.area_b now)
+    let later = subst (λ (area : Area). KeepsArea area (g.H.Disk.view c.pieces.host) (g.H.Disk.view c.run_reading.new.host)) c.pieces.invariant.area (c.run_reading.ensures.spare now) in
+    area_on (spare_in c.args.self.now) _ _ _ (g.met.H.Disk.lawful c.args.host.now told) (g.met.H.Disk.lawful c.pieces.host now) (c.pieces.invariant.spare told) later
+
+pub returns-then-ends_at-clause-area : goal.returns-then-ends_at-clause-area
+returns-then-ends_at-clause-area g c = c.run_reading.ensures.area ∙ c.pieces.invariant.area
