@@ -1,0 +1,4 @@
+mod Lists
+mod Leaves
+mod Times
+mod Cases

@@ -1,0 +1,73 @@
+use Rattle.std.proofs.Common.{rules, sym, subst, ap, ◌∙◌, ◌+◌, map, drop}
+use Rattle.std.specs.Option.{option_copied}
+use Rattle.pl_base.specs.declared.value.Value.{Value}
+use Rattle.pl_value.specs.Answers.{Reads}
+use Rattle.pl_value.specs.Frames.{rows_of}
+use Rattle.pl_value.specs.Meaning.{value, step, step_read, steps_read}
+use Rattle.pl_value.specs.Reading.{Reading, then_read}
+use Rattle.pl_value.specs.Steps.{stops}
+use Rattle.pl_value.proofs.Lists.{combined_is, call_is, row_is, and_is, or_is, binary_is, steps_here}
+use Rattle.pl_value.proofs.Leaves.{two_leaves, two_left}
+use Rattle.pl_value.proofs.Cases.{without_operand, with_operand, holds_by}
+use Rattle.pl_value.proofs.expression.+value.Goals as goal
+
+pub value-returns-in-Binary : goal.value-returns-in-Binary
+value-returns-in-Binary g t c = subst (λ (q : Reading _ Value). Reads {A = Value} q c.two.result c.two.new.caller)
+    (sym (binary_is g.C.Caller.calls (g.S.Subqueries.sub c.args.sub.now) c.args.e.now c.in-Binary.operator c.in-Binary.operands _ (rows_of c.args.frame.now) c.args.caller.now c.in-Binary.is c.get-in-Binary.ensures)) c.two.ensures
+
+pub value-returns-in-And : goal.value-returns-in-And
+value-returns-in-And g t c = subst (λ (q : Reading _ Value). Reads {A = Value} q c.all_or_any.result c.all_or_any.new.caller)
+    (sym (and_is g.C.Caller.calls (g.S.Subqueries.sub c.args.sub.now) c.args.e.now c.in-And.parts _ (rows_of c.args.frame.now) c.args.caller.now c.in-And.is c.as_slice-in-And.ensures)) c.all_or_any.ensures
+
+pub value-returns-in-Or : goal.value-returns-in-Or
+value-returns-in-Or g t c = subst (λ (q : Reading _ Value). Reads {A = Value} q c.all_or_any-in-Or.result c.all_or_any-in-Or.new.caller)
+    (sym (or_is g.C.Caller.calls (g.S.Subqueries.sub c.args.sub.now) c.args.e.now c.in-Or.parts _ (rows_of c.args.frame.now) c.args.caller.now c.in-Or.is c.as_slice-in-Or.ensures)) c.all_or_any-in-Or.ensures
+
+pub value-returns-in-Combined : goal.value-returns-in-Combined
+value-returns-in-Combined g t c = subst (λ (q : Reading _ Value). Reads {A = Value} q c.combined.result c.combined.new.caller)
+    (sym (combined_is g.C.Caller.calls (g.S.Subqueries.sub c.args.sub.now) c.args.e.now c.in-Combined.combination c.in-Combined.operands _ (rows_of c.args.frame.now) c.args.caller.now c.in-Combined.is c.as_slice-in-Combined.ensures)) c.combined.ensures
+
+pub value-returns-in-Row : goal.value-returns-in-Row
+value-returns-in-Row g t c = subst (λ (q : Reading _ Value). Reads {A = Value} q c.row_of.result c.row_of.new.caller)
+    (sym (row_is g.C.Caller.calls (g.S.Subqueries.sub c.args.sub.now) c.args.e.now c.in-Row.types _ c.in-Row.fields _ (rows_of c.args.frame.now) c.args.caller.now c.in-Row.is (search rules) (search rules))) c.row_of.ensures
+
+pub value-returns-in-Call : goal.value-returns-in-Call
+value-returns-in-Call g t c = subst (λ (q : Reading _ Value). Reads {A = Value} q c.call.result c.call.new.caller)
+    (sym (call_is g.C.Caller.calls (g.S.Subqueries.sub c.args.sub.now) c.args.e.now c.in-Call.routine c.in-Call.arguments _ (rows_of c.args.frame.now) c.args.caller.now c.in-Call.is c.as_slice-in-Call.ensures)) c.call.ensures
+
+pub two-returns-in-Some-Some : goal.two-returns-in-Some-Some
+two-returns-in-Some-Some g t c =
+    two_leaves g.C.Caller.calls (g.S.Subqueries.sub c.args.sub.now) c.args.operator c.args.pair.now c.in-Some-Some.x.now c.in-Some-Some.y.now (rows_of c.args.frame.now) c.args.caller.now c.of_two.result
+    (c.in-Some-Some.ensures _ _ _) (c.in-Some-Some.ensures' _ _ _) (c.of_two.ensures _)
+
+pub two-returns-in-None-Some : goal.two-returns-in-None-Some
+two-returns-in-None-Some g t c =
+    two_left g.C.Caller.calls (g.S.Subqueries.sub c.args.sub.now) c.args.operator c.args.pair.now c.in-None-Some.y.now (rows_of c.args.frame.now) c.args.caller.now c.left.new.caller c.left.result
+    (λ w. c.in-None-Some.ensures' g.C.Caller.calls (g.S.Subqueries.sub c.args.sub.now) w) c.left.ensures
+
+pub steps-returns-in-Err : goal.steps-returns-in-Err
+steps-returns-in-Err g t c =
+    stops {A = Value} {B = Value} _ (step_read ((step g.C.Caller.calls (g.S.Subqueries.sub c.args.sub.now)) c.step-item.result) c.loop-step.so_far (rows_of c.args.frame.now) c.loop-step.caller)
+    (λ v w. steps_read (map (step g.C.Caller.calls (g.S.Subqueries.sub c.args.sub.now)) (drop (c.loop-step.step-index + 1) c.args.steps.now)) v (rows_of c.args.frame.now) w) _ _
+    (steps_here (step g.C.Caller.calls (g.S.Subqueries.sub c.args.sub.now)) c.args.steps.now c.loop-step.step-index c.step-item.result c.loop-step-test.true c.step-item.is c.loop-step.so_far (rows_of c.args.frame.now) c.loop-step.caller c.loop-step.invariant)
+    c.in-Err.ensures
+
+pub steps-loop-step-preserved : goal.steps-loop-step-preserved
+steps-loop-step-preserved g t c =
+    steps_here (step g.C.Caller.calls (g.S.Subqueries.sub c.args.sub.now)) c.args.steps.now c.loop-step.step-index c.step-item.result c.loop-step-test.true c.step-item.is c.loop-step.so_far (rows_of c.args.frame.now) c.loop-step.caller c.loop-step.invariant
+    ∙ ap (λ q. then_read q (λ v w. steps_read (map (step g.C.Caller.calls (g.S.Subqueries.sub c.args.sub.now)) (drop (c.loop-step.step-index + 1) c.args.steps.now)) v (rows_of c.args.frame.now) w)) c.in-Ok.ensures
+
+pub cased-returns-in-None : goal.cased-returns-in-None
+cased-returns-in-None g t c =
+    without_operand g.C.Caller.calls (g.S.Subqueries.sub c.args.sub.now) c.args.case.now (rows_of c.args.frame.now) c.args.caller.now _ _
+    c.in-None.is c.converted.ensures
+
+pub cased-returns-in_ok-x-in-Some : goal.cased-returns-in_ok-x-in-Some
+cased-returns-in_ok-x-in-Some g t c =
+    with_operand g.C.Caller.calls (g.S.Subqueries.sub c.args.sub.now) c.args.case.now _ c.get.result.now _ c.get-in-Some.result.now (rows_of c.args.frame.now) c.args.caller.now c.value.new.caller c.converted-in-Some.new.caller c.converted-in-Some.result
+    c.in-Some.is c.in_ok-x-in-Some.ensures c.converted-in-Some.ensures (search rules) (search rules)
+
+pub holds-returns : goal.holds-returns
+holds-returns g t c =
+    holds_by (value g.C.Caller.calls (g.S.Subqueries.sub c.args.sub.now) c.args.when.now) (option_copied c.args.x) _ c.get.result.now (rows_of c.args.frame.now) c.args.caller.now c.value.new.caller c.is_met.result
+    c.in_ok-v.ensures (search rules) (c.is_met.ensures c.value.new.caller)

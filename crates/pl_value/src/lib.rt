@@ -1,0 +1,17 @@
+//! The values of expressions over rows that stand, generic in what makes calls of routines and in
+//! what runs the queries inside.
+#![tactic(auto)]
+
+mod combined;
+mod expression;
+mod operand;
+mod operations;
+mod world;
+
+pub use combined::{better, combine, is_in};
+pub use expression::{passes, value, values};
+pub use operand::{Lent, Operand, Unsettled};
+pub use world::{Caller, NoQueries, NoRoutines, Subqueries};
+
+#[cfg(test)]
+mod tests;
