@@ -1,10 +1,14 @@
-use Rattle.std.proofs.Common.{◌≡◌, ◌∙◌, ◌&&◌, List, true, sym, ap, subst}
+use Rattle.std.proofs.Common.{◌≡◌, ◌∙◌, ◌&&◌, List, ℕ, true, sym, ap, subst}
 use Rattle.std.specs.Str.{is_utf8, chars}
 use lib.Utf8.{encode}
 use Rattle.pl_base.specs.declared.operation.Op.TheVariants.{Put}
 use Rattle.pl_base.specs.declared.value.Value.{Value}
-use Rattle.pl_codec.specs.Spelling.{is_table_name, is_stored_op}
+use Rattle.pl_codec.specs.Spelling.{is_define_text, is_table_name, is_stored_op}
 use Rattle.pl_keeper.proofs.tests.two_commits_are_read_back.Goals as goal
+
+pub commit-requires-clause-spelling : goal.commit-requires-clause-spelling
+unfolding is_utf8 chars encode
+commit-requires-clause-spelling g c = ap (λ (text : List ℕ). is_define_text text && true) c.in_ok-text.ensures
 
 pub encode-requires : goal.encode-requires
 unfolding is_utf8 chars encode
