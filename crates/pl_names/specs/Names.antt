@@ -158,10 +158,17 @@ abbrev pub labelled_here : Name → Name → ℕ → Visible → Option Found
 labelled_here q x place frame =
     if bytes_eq frame.label q then Some (variables_named x place frame.variables) else None
 
+-- of two of one label the inner one, unless the outer one alone has such a variable
+abbrev pub nearer_labelled : Option Found → Option Found → Option Found
+nearer_labelled None outer = outer
+nearer_labelled inner None = inner
+nearer_labelled (Some inner) (Some outer) = Some (nearer inner outer)
+
 abbrev pub labelled : Name → Name → ℕ → List Visible → Option Found
 labelled q x place [] = None
 labelled q x place (frame ∷ inner) =
-    nearer_one (labelled q x (place + length frame.variables) inner) (labelled_here q x place frame)
+    nearer_labelled (labelled q x (place + length frame.variables) inner)
+    (labelled_here q x place frame)
 
 abbrev pub known_one : Option Found → Resolved Meaning
 known_one None = Err UNDEFINED_TABLE

@@ -1,7 +1,8 @@
 -- The items of a FROM, and `*`: PostgreSQL manual, "Table Expressions", "Select Lists".
 use Rattle.std.specs.Prelude.{ℕ, ◌+◌, ◌&&◌, ◌||◌, nat_lt, if◌then◌else◌, List, [], ◌∷◌, ◌++◌}
 use Rattle.std.specs.Prelude.{length, map, Option, Some, None, Ok, Err, Bool, true, false, bytes_eq}
-use Rattle.pl_base.specs.States.{DUPLICATE_ALIAS, SYNTAX_ERROR, TOO_MANY_COLUMNS, UNDEFINED_TABLE}
+use Rattle.pl_base.specs.States.{DUPLICATE_ALIAS, INVALID_COLUMN_REFERENCE, SYNTAX_ERROR}
+use Rattle.pl_base.specs.States.{TOO_MANY_COLUMNS, UNDEFINED_TABLE}
 use Rattle.pl_catalog.specs.Objects.{table_named}
 use Rattle.pl_catalog.specs.declared.object.Column.{Column}
 use Rattle.pl_catalog.specs.declared.object.TableDef.{TableDef}
@@ -81,18 +82,22 @@ share_name (s ∷ ss) others = (is_some_name s.name && is_named s.name others) |
 unfoldable pub together : List Source → List Source → Resolved (List Source)
 together done more = if share_name more done then Err DUPLICATE_ALIAS else Ok (done ++ more)
 
--- the nearest item of this name
+-- the item of this name
 abbrev pub source_in : Name → List Source → Option Source
 source_in q [] = None
 source_in q (s ∷ ss) = if bytes_eq s.name q then Some s else source_in q ss
 
-abbrev pub nearer_source : Option Source → Option Source → Option Source
-nearer_source None outer = outer
-nearer_source inner outer = inner
+abbrev pub nearer_level : Option Reach → Option Reach → Option Reach
+nearer_level None outer = outer
+nearer_level inner outer = inner
 
-abbrev pub source_within : Name → List Reach → Option Source
-source_within q [] = None
-source_within q (level ∷ inner) = nearer_source (source_within q inner) (source_in q level.sources)
+abbrev pub level_named : Name → Reach → Option Reach
+level_named q level = if is_named q level.sources then Some level else None
+
+-- the nearest query that has an item of this name
+abbrev pub level_within : Name → List Reach → Option Reach
+level_within q [] = None
+level_within q (level ∷ inner) = nearer_level (level_within q inner) (level_named q level)
 
 -- ---- select lists
 
@@ -127,5 +132,11 @@ abbrev pub columns_by : Items → Option Source → Resolved Items
 columns_by items None = Err UNDEFINED_TABLE
 columns_by items (Some s) = columns_on items s.row 0 s.columns
 
+abbrev pub columns_at : Items → Name → Option Reach → Resolved Items
+columns_at items q None = Err UNDEFINED_TABLE
+columns_at items q (Some level) =
+    if level.is_barred then Err INVALID_COLUMN_REFERENCE
+    else columns_by items (source_in q level.sources)
+
 unfoldable pub columns_of : Items → Name → Around → Resolved Items
-columns_of items q a = columns_by items (source_within q a.levels)
+columns_of items q a = columns_at items q (level_within q a.levels)

@@ -103,6 +103,17 @@ pub(crate) fn nearer_one(inner: Option<Found>, outer: Option<Found>) -> Option<F
     }
 }
 
+/// What further in hides of one label: what it has itself.
+pub(crate) fn nearer_labelled(inner: Option<Found>, outer: Option<Found>) -> Option<Found>
+    ensures { result ≡ spec.nearer_labelled inner outer }
+{
+    match (inner, outer) {
+        (None, outer) => outer,
+        (inner, None) => inner,
+        (Some(inner), Some(outer)) => Some(inner.nearer(outer)),
+    }
+}
+
 /// The one meaning. 42P01 where nothing has the qualifier's name.
 pub(crate) fn known_one(found: Option<Found>) -> Result<Meaning, ScopeFail>
     ensures { Gives result (spec.known_one found) }

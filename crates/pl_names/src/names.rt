@@ -5,7 +5,7 @@ ghost use Rattle.pl_names.specs.Names as spec;
 ghost use Rattle.pl_names.specs.Names.{around, reach};
 ghost use Rattle.pl_typing.specs.Resolved.{Gives};
 
-use crate::found::{Found, Meaning, both, known_one, nearer_one};
+use crate::found::{Found, Meaning, both, known_one, nearer_labelled, nearer_one};
 use crate::{Level, Names, Seen, Source, Visible};
 use pl_base::{Boxed, List, Memory, Name, State, Ty};
 use pl_resolved::{Head, RExpr};
@@ -190,7 +190,7 @@ fn labelled(qualifier: Name, name: Name, mut frames: &[Visible]) -> Result<Optio
     let mut place = 0;
     while let [frame, rest @ ..] = frames {
         let next = behind(place, frame.variables.len())?;
-        found = nearer_one(labelled_here(qualifier, name, place, frame), found);
+        found = nearer_labelled(labelled_here(qualifier, name, place, frame), found);
         place = next;
         frames = rest;
     }

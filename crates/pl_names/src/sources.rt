@@ -1,7 +1,7 @@
 //! The items of a FROM, and `*`: PostgreSQL manual, "Table Expressions", "Select Lists".
 
 ghost use Rattle.std.specs.Prelude.{◌≡◌, map, IfOk};
-ghost use Rattle.std.specs.Option.{option_copied};
+ghost use Rattle.std.specs.Option.{option_copied, option_map};
 ghost use Rattle.pl_names.specs.Names.{around, reach};
 ghost use Rattle.pl_names.specs.Sources as spec;
 ghost use Rattle.pl_typing.specs.Resolved.{Gives};
@@ -203,9 +203,9 @@ fn source_in(name: Name, mut sources: &[Source]) -> Option<&Source>
     None
 }
 
-fn nearer_source<'a>(inner: Option<&'a Source>, outer: Option<&'a Source>) -> Option<&'a Source>
-    ensures { option_copied result ≡ spec.nearer_source (option_copied inner.entry)
-        (option_copied outer.entry) }
+fn nearer_level<'a>(inner: Option<Level<'a>>, outer: Option<Level<'a>>) -> Option<Level<'a>>
+    ensures { option_map reach result ≡ spec.nearer_level (option_map reach inner.entry)
+        (option_map reach outer.entry) }
 {
     match inner {
         None => outer,
@@ -213,12 +213,22 @@ fn nearer_source<'a>(inner: Option<&'a Source>, outer: Option<&'a Source>) -> Op
     }
 }
 
-fn source_within<'a>(name: Name, mut levels: &[Level<'a>]) -> Option<&'a Source>
-    ensures { option_copied result ≡ spec.source_within name (map reach levels.entry.now) }
+fn level_named<'a>(name: Name, level: Level<'a>) -> Option<Level<'a>>
+    ensures { option_map reach result ≡ spec.level_named name (reach level.entry) }
+{
+    if is_named(name, level.sources.as_slice()) {
+        Some(level)
+    } else {
+        None
+    }
+}
+
+fn level_within<'a>(name: Name, mut levels: &[Level<'a>]) -> Option<Level<'a>>
+    ensures { option_map reach result ≡ spec.level_within name (map reach levels.entry.now) }
 {
     let mut found = None;
     while let [level, rest @ ..] = levels {
-        found = nearer_source(source_in(name, level.sources.as_slice()), found);
+        found = nearer_level(level_named(name, *level), found);
         levels = rest;
     }
     found
@@ -290,14 +300,28 @@ pub fn every_column(items: Items, sources: &[Source]) -> Result<Items, ScopeFail
     }
 }
 
-/// `name.*`: the columns of the nearest item of this name. 42P01 where there is none, 54011 at the
-/// 65th column.
+fn columns_by(items: Items, source: Option<&Source>) -> Result<Items, ScopeFail>
+    ensures { Gives result (spec.columns_by items (option_copied source.entry)) }
+{
+    match source {
+        None => Err(ScopeFail::State(State::UNDEFINED_TABLE)),
+        Some(source) => columns_on(items, source.row, source.columns.as_slice()),
+    }
+}
+
+/// `name.*`: the columns of the nearest item of this name. 42P01 where there is none, 42P10 where
+/// they may not be named here, 54011 at the 65th column.
 #[tactic(auto, unfolding(crate::specs::Sources::columns_of))]
 pub fn columns_of(items: Items, name: Name, names: &Names<'_>) -> Result<Items, ScopeFail>
     ensures { Gives result (spec.columns_of items name (around names.now)) }
 {
-    match source_within(name, names.levels) {
+    match level_within(name, names.levels) {
         None => Err(ScopeFail::State(State::UNDEFINED_TABLE)),
-        Some(source) => columns_on(items, source.row, source.columns.as_slice()),
+        Some(level) => {
+            if level.is_barred {
+                return Err(ScopeFail::State(State::INVALID_COLUMN_REFERENCE));
+            }
+            columns_by(items, source_in(name, level.sources.as_slice()))
+        }
     }
 }

@@ -1,0 +1,6 @@
+pub mod Answers
+pub mod Parts
+pub mod Steps
+pub mod Expressions
+pub mod Queries
+pub mod Resolution

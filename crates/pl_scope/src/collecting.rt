@@ -1,0 +1,113 @@
+//! Aggregates, each of them once in its query.
+
+ghost use Rattle.std.specs.Prelude.{◌≡◌, codes, IfOk};
+ghost use Rattle.pl_names.specs.Names.{around};
+ghost use Rattle.pl_scope.specs.Answers.{Reads};
+ghost use Rattle.pl_scope.specs.Expressions as spec;
+
+use crate::Made;
+use pl_base::{Boxed, Name, State, Ty};
+use pl_grouping::{aggregate_place, reads_any};
+use pl_names::Names;
+use pl_resolved::{Aggregate, RAggregate, RExpr};
+use pl_typing::{Arguments, ScopeFail, Typed, TypedAggregate, aggregated};
+use std::alloc::{AllocError, Global};
+
+fn aggregate_at(
+    alloc: Global,
+    place: usize,
+    ty: Ty,
+    head: Name,
+    names: &Names<'_>,
+) -> Result<Typed, AllocError>
+    ensures { IfOk result (λ typed. typed ≡ spec.aggregate_at place ty head (around names.now)) }
+{
+    let tree = RExpr::Place {
+        row: names.aggregates_row,
+        column: place,
+    };
+    Ok(Typed {
+        tree: Boxed::new(alloc, tree)?,
+        ty,
+        head,
+    })
+}
+
+fn is_of_outer(
+    alloc: Global,
+    aggregate: &RAggregate,
+    names: &Names<'_>,
+    made: &Made,
+) -> Result<bool, AllocError>
+    ensures { IfOk result (λ is. is ≡ spec.is_of_outer aggregate.now (around names.now) made.now) }
+{
+    let none: [RExpr; 0] = [];
+    let queries = made.queries.as_slice();
+    let arguments = aggregate.arguments.as_slice();
+    let reads_outer = reads_any(alloc, &none, queries, 1, names.aggregates_row, arguments)?;
+    if !reads_outer {
+        return Ok(false);
+    }
+    let from = names.aggregates_row;
+    let reads_own = reads_any(alloc, &none, queries, from, names.next_row, arguments)?;
+    Ok(!reads_own)
+}
+
+fn collected_by(
+    alloc: Global,
+    found: Option<usize>,
+    aggregated: TypedAggregate,
+    head: Name,
+    names: &Names<'_>,
+    made: &mut Made,
+) -> Result<Typed, ScopeFail>
+    ensures { Reads (spec.collected_by found aggregated head (around names.now) made.old) result
+        made.new }
+{
+    let TypedAggregate { aggregate, ty } = aggregated;
+    match found {
+        Some(place) => Ok(aggregate_at(alloc, place, ty, head, names)?),
+        None => {
+            let typed = aggregate_at(alloc, made.aggregates.len(), ty, head, names)?;
+            made.aggregates.push(aggregate)?;
+            Ok(typed)
+        }
+    }
+}
+
+/// The aggregate as one of the query that is being read. 42803 where no aggregate may stand, 0A000
+/// where it names columns and all of them are of outer queries.
+pub fn collected(
+    alloc: Global,
+    aggregated: TypedAggregate,
+    head: Name,
+    names: &Names<'_>,
+    made: &mut Made,
+) -> Result<Typed, ScopeFail>
+    ensures { Reads (spec.collected aggregated head (around names.now) made.old) result made.new }
+{
+    if !names.may_aggregate {
+        return Err(ScopeFail::State(State::GROUPING_ERROR));
+    }
+    if is_of_outer(alloc, &aggregated.aggregate, names, &*made)? {
+        return Err(ScopeFail::State(State::FEATURE_NOT_SUPPORTED));
+    }
+    let found = aggregate_place(&aggregated.aggregate, made.aggregates.as_slice());
+    collected_by(alloc, found, aggregated, head, names, made)
+}
+
+fn count_heading() -> Name
+    ensures { result ≡ codes "count" }
+{
+    Name::of("count").unwrap()
+}
+
+/// `count(*)`, by `collected`.
+pub fn count_rows(alloc: Global, names: &Names<'_>, made: &mut Made) -> Result<Typed, ScopeFail>
+    ensures { Reads (spec.count_rows (around names.now) made.old) result made.new }
+{
+    match aggregated(alloc, Aggregate::CountRows, Arguments::new(alloc)) {
+        Ok(aggregated) => collected(alloc, aggregated, count_heading(), names, made),
+        Err(fail) => Err(fail),
+    }
+}

@@ -1,0 +1,19 @@
+//! Names and types of expressions and queries are resolved: the tree with places in place of names,
+//! or the SQLSTATE of the first node that fails in reading order.
+#![tactic(auto)]
+
+mod casting;
+mod closing;
+mod collecting;
+mod entering;
+mod made;
+mod ordering;
+mod parts;
+mod resolve;
+mod written;
+
+pub use closing::{Arranged, Clauses, Selected};
+pub use made::{Inner, Made};
+pub use ordering::Ordered;
+pub use resolve::{ResolvedExpr, resolve_expr, resolve_query};
+pub use written::Written;

@@ -1,0 +1,12 @@
+//! Tests of resolution: queries with the columns that a PostgreSQL server gives them, or the SQLSTATE
+//! of their first failing node; and the places that names become.
+#![tactic(auto)]
+
+#[cfg(test)]
+mod cases;
+#[cfg(test)]
+mod columns;
+#[cfg(test)]
+mod places;
+#[cfg(test)]
+mod tables;
