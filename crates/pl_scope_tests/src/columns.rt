@@ -83,9 +83,12 @@ fn is_told(alloc: Global, catalog: &Catalog, line: &str) -> bool {
 }
 
 // The first line whose query means something else.
-fn other<'a>(alloc: Global, catalog: &Catalog, table: &'a str) -> Option<&'a str> {
+fn other(alloc: Global, table: &'static str) -> Option<&'static str> {
+    let Ok(catalog) = catalog(alloc) else {
+        return Some("no catalogue");
+    };
     for line in table.lines() {
-        if !is_told(alloc, catalog, line) {
+        if !is_told(alloc, &catalog, line) {
             return Some(line);
         }
     }
@@ -94,8 +97,5 @@ fn other<'a>(alloc: Global, catalog: &Catalog, table: &'a str) -> Option<&'a str
 
 #[test]
 fn queries_mean_what_the_server_says(rt: HostRuntime) {
-    let Ok(catalog) = catalog(rt.alloc()) else {
-        return;
-    };
-    assert_eq!(rt; other(rt.alloc(), &catalog, CASES), None);
+    assert_eq!(rt; other(rt.alloc(), CASES), None);
 }
