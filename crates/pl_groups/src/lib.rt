@@ -1,8 +1,10 @@
-//! Rows by groups.
+//! Rows by groups, and what aggregates make of them.
 #![tactic(auto)]
 
+mod aggregates;
 mod grouping;
 
+pub use aggregates::aggregate;
 pub use grouping::group;
 
 #[cfg(test)]

@@ -1,6 +1,6 @@
 -- The order of values: PostgreSQL manual, "Comparison Functions and Operators", "Composite Type
 -- Comparison".
-use Rattle.std.specs.Prelude.{ℕ, unwrap_or}
+use Rattle.std.specs.Prelude.{ℕ, Bool, true, false, List, slice_get, unwrap_or}
 use Rattle.std.specs.Ordering.{nat_cmp, ordering_then}
 use Rattle.std.specs.declared.cmp.Ordering.{Ordering}
 use Rattle.std.specs.declared.cmp.Ordering.TheVariants.{Less, Equal, Greater}
@@ -36,6 +36,15 @@ abbrev mutual
   row_order (more_of-Field _ _ v rest) end_of-Field = Greater
   row_order (more_of-Field _ _ v rest) (more_of-Field _ _ w others) =
       ordering_then (value_order v w) (row_order rest others)
+
+-- the order, turned round for DESC
+abbrev pub turned : Bool → Value → Value → Ordering
+turned true a b = value_order b a
+turned false a b = value_order a b
+
+-- the value at a place; null where there is none
+abbrev pub value_at : List Value → ℕ → Value
+value_at values place = unwrap_or (slice_get values place) Null
 
 -- fields by their values
 abbrev pub field_order : Field → Field → Ordering

@@ -6,7 +6,7 @@ mod marks;
 mod order;
 
 pub use keys::{Keys, is_same};
-pub use order::value_order;
+pub use order::{turned, value_or, value_order};
 
 #[cfg(test)]
 mod tests;

@@ -1,8 +1,8 @@
 //! The order of values, by which rows are sorted and told apart.
 
-ghost use Rattle.std.specs.Prelude.{◌≡◌};
+ghost use Rattle.std.specs.Prelude.{◌≡◌, slice_get, unwrap_or};
 ghost use Rattle.std.specs.Cmp.Lexicographic.{slice_cmp};
-ghost use Rattle.pl_keys.specs.Order.{field_order, kind, plain_order, value_order};
+ghost use Rattle.pl_keys.specs.Order.{field_order, kind, plain_order, turned, value_order};
 
 use pl_base::{Field, Value};
 use pl_calc::compare;
@@ -20,6 +20,27 @@ pub fn value_order(a: &Value, b: &Value) -> Ordering
             fields_order(fields.as_slice(), others.as_slice())
         }
         _ => plain_order(a, b),
+    }
+}
+
+/// The order of two values, turned round where it is descending.
+pub fn turned(is_descending: bool, a: &Value, b: &Value) -> Ordering
+    ensures { result ≡ turned is_descending a.now b.now }
+{
+    if is_descending {
+        value_order(b, a)
+    } else {
+        value_order(a, b)
+    }
+}
+
+/// The value at the place, from 0. `absent` where there is none.
+pub fn value_or<'a>(values: &'a [Value], place: usize, absent: &'a Value) -> &'a Value
+    ensures { result.now ≡ unwrap_or (slice_get values.now place) absent.now }
+{
+    match values.get(place) {
+        Some(value) => value,
+        None => absent,
     }
 }
 

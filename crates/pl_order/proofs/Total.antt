@@ -6,8 +6,9 @@ use Rattle.std.specs.Ordering.{is_lt}
 use Rattle.std.proofs.lemmas.List.Sorted.{ranks_by}
 use Rattle.pl_base.specs.declared.value.Value.{Value}
 use Rattle.pl_keys.specs.Lent.{values_total}
+use Rattle.pl_keys.specs.Order.{turned, value_at}
 use Rattle.pl_resolved.specs.declared.query.RKey.{RKey}
-use Rattle.pl_order.specs.Order.{key_order, null_place, order_by, turned, value_in}
+use Rattle.pl_order.specs.Order.{key_order, null_place, order_by}
 
 turned_total : (is_descending : Bool) → IsTotalOrder (turned is_descending)
 turned_total true = back_total values_total
@@ -18,7 +19,7 @@ key_total key = then_total (on_total (null_place key) nat_cmp_total) (turned_tot
 
 rows_total : (keys : List RKey) → IsTotalOrder (order_by keys)
 rows_total [] = point_total
-rows_total (key ∷ keys) = then_total (on_total (λ (row : List Value). value_in row key.item) (key_total key)) (rows_total keys)
+rows_total (key ∷ keys) = then_total (on_total (λ (row : List Value). value_at row key.item) (key_total key)) (rows_total keys)
 
 -- whether a row is less than another
 abbrev pub is_before : List RKey → List Value → List Value → Bool

@@ -1,10 +1,11 @@
 //! ORDER BY: PostgreSQL manual, "Sorting Rows (ORDER BY)".
 
-ghost use Rattle.std.specs.Prelude.{◌≡◌, OnErr, OnOk, slice_get, unwrap_or};
-ghost use Rattle.pl_order.specs.Order.{key_order, null_place, order_by, sorted, value_in};
+ghost use Rattle.std.specs.Prelude.{◌≡◌, OnErr, OnOk};
+ghost use Rattle.pl_keys.specs.Order.{value_at};
+ghost use Rattle.pl_order.specs.Order.{key_order, null_place, order_by, sorted};
 
 use pl_base::{Cells, Value};
-use pl_keys::value_order;
+use pl_keys::{turned, value_or};
 use pl_resolved::RKey;
 use std::alloc::AllocError;
 use std::cmp::Ordering;
@@ -36,23 +37,14 @@ fn order_by(keys: &[RKey], a: &[Value], b: &[Value]) -> Ordering
 
 fn item_order(key: &RKey, a: &[Value], b: &[Value]) -> Ordering
     ensures { result ≡
-        key_order key.now (value_in a.now key.now.item) (value_in b.now key.now.item) }
+        key_order key.now (value_at a.now key.now.item) (value_at b.now key.now.item) }
 {
     let null = Value::Null;
     key_order(
         key,
-        item_or(a, key.item, &null),
-        item_or(b, key.item, &null),
+        value_or(a, key.item, &null),
+        value_or(b, key.item, &null),
     )
-}
-
-fn item_or<'a>(row: &'a [Value], item: usize, absent: &'a Value) -> &'a Value
-    ensures { result.now ≡ unwrap_or (slice_get row.now item) absent.now }
-{
-    match row.get(item) {
-        Some(value) => value,
-        None => absent,
-    }
 }
 
 fn key_order(key: &RKey, a: &Value, b: &Value) -> Ordering
@@ -61,10 +53,8 @@ fn key_order(key: &RKey, a: &Value, b: &Value) -> Ordering
     let order = null_place(key, a).cmp(&null_place(key, b));
     if order != Ordering::Equal {
         order
-    } else if key.is_descending {
-        value_order(b, a)
     } else {
-        value_order(a, b)
+        turned(key.is_descending, a, b)
     }
 }
 
