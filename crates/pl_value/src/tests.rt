@@ -1,4 +1,4 @@
-//! Expressions of most kinds. The answers are those of a PostgreSQL server.
+//! Expressions of most kinds, with the values that the manual gives them.
 
 use crate::{Lent, NoQueries, NoRoutines, Unsettled, value};
 use pl_base::{Arithmetic, Boxed, Comparison, List, Operator, State, Ty, Value};
@@ -102,7 +102,7 @@ fn combined(
 }
 
 #[test]
-fn values_are_those_of_a_server(rt: HostRuntime) -> Result<(), Fail> {
+fn expressions_have_their_values(rt: HostRuntime) -> Result<(), Fail> {
     let alloc = rt.alloc();
     assert_eq!(rt; number(alloc, Ok(RExpr::Place { row: 0, column: 1 })), 7);
     assert_eq!(rt; number(alloc, Ok(RExpr::Place { row: 1, column: 1 })), 0);
