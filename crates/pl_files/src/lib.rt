@@ -7,8 +7,6 @@ mod host;
 mod problem;
 mod source;
 mod store_file;
-#[cfg(test)]
-mod tests;
 
 pub use host::FileHost;
 pub use problem::{Named, Problem, Reason, Subject};

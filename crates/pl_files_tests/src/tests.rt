@@ -1,5 +1,5 @@
-use crate::{FileHost, FileSource, Problem};
 use pl_disk::{Area, Disk, Host, Source};
+use pl_files::{FileHost, FileSource, Problem};
 use std::os::unix::fs::symlink;
 use std::test::Fail;
 use std::{fs, process};
