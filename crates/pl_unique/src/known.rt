@@ -1,0 +1,61 @@
+//! Keys and their numbers.
+
+ghost use Rattle.std.specs.Prelude.{◌≡◌, ◌≢◌, ◌∷◌, ◌++◌, ◌↔◌, ℕ, [], Some, length, slice_get};
+ghost use Rattle.std.specs.Prelude.{IfOk, OnOk, OnErr};
+
+use crate::Part;
+use indexmap::IndexSet;
+use std::alloc::{AllocError, Global};
+use std::marker::Model;
+
+/// Keys, each once, numbered from 0 in the order in which they came.
+#[derive(Drop)]
+pub(crate) struct Keys {
+    set: IndexSet<Vec<Part>>,
+}
+
+impl Model for Keys {
+    ghost use Rattle.std.specs.Prelude.{List, map};
+    ghost use Rattle.std.specs.Coded.{codes};
+    ghost use Rattle.std.specs.List.{IsDistinct};
+    ghost use Rattle.pl_unique.specs.declared.key.Part as key;
+    ghost use Rattle.pl_unique.specs.contracts.key.Part as part;
+    ghost use Rattle.pl_unique.specs.Numbered.{same_key};
+
+    ghost Value = { List (List key.Part) };
+
+    ghost coded = { Prim.hlevel (codes, part.the_row.coded) };
+
+    ghost view = { λ k. map (λ v. v.items) k.set.keys };
+
+    ghost invariant = { λ k. IsDistinct (λ v w. same_key v.items w.items) k.set.keys };
+}
+
+impl Keys {
+    pub(crate) fn new(alloc: Global) -> Keys
+        ensures { result ≡ [] }
+    {
+        Keys {
+            set: IndexSet::new(alloc),
+        }
+    }
+
+    /// The number of this key. None where it isn't there.
+    pub(crate) fn number_of(&self, key: &[Part]) -> Option<usize>
+        ensures { (n : _) → (result ≡ Some n) ↔ (slice_get self.now n ≡ Some key.now) }
+    {
+        self.set.get_index_of(key)
+    }
+
+    /// Adds a key that isn't there, and answers its number.
+    pub(crate) fn add(&mut self, key: Vec<Part>) -> Result<usize, AllocError>
+        requires absent { (n : ℕ) → slice_get self.old n ≢ Some key.items }
+        ensures number { IfOk result (λ n. n ≡ length self.old) }
+        ensures ok { OnOk result (self.new ≡ self.old ++ key.items ∷ []) }
+        ensures err { OnErr result (self.new ≡ self.old) }
+    {
+        let number = self.set.len();
+        self.set.insert(key)?;
+        Ok(number)
+    }
+}

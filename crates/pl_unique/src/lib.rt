@@ -1,0 +1,9 @@
+//! Keys of rows at places, each found by a map: what UNIQUE and PRIMARY KEY forbid to stand twice.
+#![tactic(auto)]
+
+mod key;
+mod key_map;
+mod known;
+
+pub use key::{Letters, Part, key_of};
+pub use key_map::KeyMap;
