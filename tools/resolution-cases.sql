@@ -285,6 +285,70 @@ SELECT y FROM length('x') AS y
 SELECT 1 FROM length(a)
 SELECT 1 FROM t, length(x)
 
+-- constants in ORDER BY and GROUP BY
+SELECT a FROM t ORDER BY 'x'
+SELECT a FROM t ORDER BY NULL
+SELECT a FROM t ORDER BY true
+SELECT a FROM t ORDER BY 2147483647
+SELECT a FROM t ORDER BY 2147483648
+SELECT a FROM t ORDER BY -2147483648
+SELECT a FROM t ORDER BY +1
+SELECT a FROM t ORDER BY ('x')
+SELECT a FROM t ORDER BY 'x'::text
+SELECT DISTINCT a FROM t ORDER BY 'x'
+SELECT a FROM t GROUP BY a, NULL
+SELECT a FROM t GROUP BY false, a
+SELECT a FROM t GROUP BY 2147483647
+SELECT a FROM t GROUP BY 3000000000
+SELECT a FROM t ORDER BY 'x', nope
+SELECT a FROM t ORDER BY nope, 'x'
+SELECT nope FROM t ORDER BY 'x'
+SELECT a FROM t ORDER BY 'x' LIMIT nope
+SELECT a FROM t WHERE nope GROUP BY 'x'
+
+-- keys of GROUP BY that begin a longer node
+SELECT a + b + 1 FROM t GROUP BY a + b
+SELECT a + 1 - 1 FROM t GROUP BY a + 1
+SELECT s || 'x' || 'y' FROM t GROUP BY s || 'x'
+SELECT s || 'x' || a FROM t GROUP BY s || 'x'
+SELECT s || 'x' || a FROM t GROUP BY s || 'x', a
+SELECT a::text::integer FROM t GROUP BY a::text
+SELECT a::text::integer + 1 FROM t GROUP BY a::text
+SELECT a::text FROM t GROUP BY a::text::integer
+SELECT a::bigint::text FROM t GROUP BY a::text
+SELECT - -a FROM t GROUP BY -a
+SELECT -a FROM t GROUP BY - -a
+SELECT NOT NOT NOT f FROM t GROUP BY NOT NOT f
+SELECT NOT f FROM t GROUP BY NOT NOT f
+SELECT a + 1 FROM t GROUP BY a + 1 - 1
+SELECT a - 1 + 2 FROM t GROUP BY a + 1
+SELECT a + b - b FROM t GROUP BY a + b
+SELECT a + b + b FROM t GROUP BY a + b, b
+SELECT 1 FROM t GROUP BY a + b HAVING a + b - 1 = 0
+SELECT 1 FROM t GROUP BY a + b ORDER BY a + b + 1
+SELECT a + 1 + 2 + b FROM t GROUP BY a + 1 + 2, a + 1
+SELECT a + 1 + 2 + 3 FROM t GROUP BY a + 1 + 2, a + 1
+SELECT a * 2 + 3 FROM t GROUP BY a * 2
+SELECT a + 1 * 3 FROM t GROUP BY a + 1
+SELECT (a + 1) * 3 FROM t GROUP BY a + 1
+SELECT a + (1 + 3) FROM t GROUP BY a + 1
+SELECT f AND a = 1 AND b = 1 FROM t GROUP BY f AND a = 1, b
+SELECT f OR a = 1 FROM t GROUP BY f AND a = 1
+SELECT DISTINCT a + 1 FROM t ORDER BY a + 1 + 1
+SELECT (SELECT count(*) FROM n) FROM t GROUP BY a
+SELECT (SELECT count(*) FROM n) FROM t GROUP BY a HAVING (SELECT max(c) FROM n) > a
+SELECT (SELECT 1), (SELECT max(c) + b FROM n) FROM t GROUP BY a
+SELECT (SELECT 1), (SELECT max(c) + a FROM n) FROM t GROUP BY a
+SELECT (SELECT 1), max((SELECT c + a FROM n)) FROM t GROUP BY b
+SELECT (SELECT 1 FROM n) AS x, (SELECT t.a FROM n) AS y FROM t GROUP BY x, y
+SELECT (SELECT 1 FROM n), count(*) FROM t GROUP BY 1
+
+-- what ON and FROM see
+SELECT 1 FROM t JOIN u ON n.c = 1, n
+SELECT 1 FROM (t JOIN u ON n.c = 1) JOIN n ON true
+SELECT 1 FROM t, (SELECT t.a) x
+SELECT 1 FROM (SELECT u.a) x, u
+
 -- two failing nodes
 SELECT x, q.a FROM t
 SELECT x, a + s FROM t

@@ -1,5 +1,5 @@
 -- Columns that stand outside GROUP BY: PostgreSQL manual, "The GROUP BY and HAVING Clauses".
-use Rattle.std.specs.Prelude.{ℕ, Bool, false, not, ◌&&◌, ◌||◌, nat_le, nat_lt}
+use Rattle.std.specs.Prelude.{ℕ, zero, suc, ◌-◌, Bool, false, not, ◌&&◌, ◌||◌, nat_le, nat_lt}
 use Rattle.std.specs.Prelude.{List, [], ◌∷◌, Option, Some, None, map, option_map, slice_get}
 use Rattle.pl_resolved.specs.Layers.{ExprLayer, ArmLayer, CaseLayer, ChainLayer, PairLayer, StepLayer}
 use Rattle.pl_resolved.specs.declared.expression.RArm.{RArm, out-RArm}
@@ -11,13 +11,15 @@ use Rattle.pl_resolved.specs.declared.expression.RPair.{RPair, out-RPair}
 use Rattle.pl_resolved.specs.declared.expression.RStep.{RStep, out-RStep}
 use Rattle.pl_grouping.specs.declared.ungrouped.Asked.{Asked as AskedOf}
 use Rattle.pl_grouping.specs.Equality.{Is, Over, OverTrees, same}
+use Rattle.pl_grouping.specs.Fronts.{is_begun_cast, is_begun_unary, steps_begun}
 
 -- what is asked: the keys, and from where to where the rows of the query's FROM stand
 pub record Asked : Type 0 where
   pub keys : List RExpr
   pub first : ℕ
   pub end : ℕ
-  -- of each query before, whether it reads such a row
+  -- of each query from this number on, whether it reads such a row; those before it read none
+  pub since : ℕ
   pub queries : List Bool
 
 abbrev pub asking : AskedOf → Asked
@@ -25,6 +27,7 @@ asking a = record {
   keys = a.keys.now;
   first = a.first;
   end = a.end;
+  since = a.since;
   queries = a.queries.now;
 }
 
@@ -41,8 +44,8 @@ read_or_not (Some reads) = reads
 read_or_not None = false
 
 -- the query of this number reads such a row
-abbrev pub query_reads : List Bool → ℕ → Bool
-query_reads queries n = read_or_not (slice_get queries n)
+abbrev pub query_reads : Asked → ℕ → Bool
+query_reads a n = nat_le a.since n && read_or_not (slice_get a.queries (n - a.since))
 
 -- ---- one level of an expression, over what its parts read when they are these trees
 
@@ -58,15 +61,24 @@ abbrev pub reads_if_any : Asked → Option (Is RExpr) → Option RExpr → Bool
 reads_if_any a (Some reads) (Some x) = part_reads a reads x
 reads_if_any a part x = false
 
--- of operators or of arms
+-- of arms
 abbrev pub one_does : {A : Type 0} → List (Is A) → List A → Bool
 one_does (does ∷ more) (x ∷ xs) = does x || one_does more xs
 one_does parts xs = false
 
+-- the same of those behind the first ones, so many of them
+abbrev pub one_behind_does : {A : Type 0} → ℕ → List (Is A) → List A → Bool
+one_behind_does n [] xs = false
+one_behind_does n (does ∷ more) [] = false
+one_behind_does zero (does ∷ more) (x ∷ xs) = does x || one_behind_does zero more xs
+one_behind_does (suc n) (does ∷ more) (x ∷ xs) = one_behind_does n more xs
+
 abbrev pub inside : Asked → Over ExprLayer → OverTrees ExprLayer → Bool
 inside a (l.Place row column) x = is_own a row
-inside a (l.Cast reads types) (l.Cast x types') = part_reads a reads x
-inside a (l.Unary op n reads) (l.Unary op' n' x) = part_reads a reads x
+inside a (l.Cast reads types) (l.Cast x types') =
+    not (is_begun_cast a.keys x types') && part_reads a reads x
+inside a (l.Unary op n reads) (l.Unary op' n' x) =
+    not (is_begun_unary a.keys op' n' x) && part_reads a reads x
 inside a (l.Binary op reads) (l.Binary op' x) = reads x
 inside a (l.Chain reads) (l.Chain x) = reads x
 inside a (l.And parts) (l.And xs) = any_reads a parts xs
@@ -76,10 +88,10 @@ inside a (l.Coalesce parts to) (l.Coalesce xs to') = any_reads a parts xs
 inside a (l.Combined by parts) (l.Combined by' xs) = any_reads a parts xs
 inside a (l.Row parts types) (l.Row xs types') = any_reads a parts xs
 inside a (l.Call name parts) (l.Call name' xs) = any_reads a parts xs
-inside a (l.Scalar query) x = query_reads a.queries query
-inside a (l.Exists query) x = query_reads a.queries query
+inside a (l.Scalar query) x = query_reads a query
+inside a (l.Exists query) x = query_reads a query
 inside a (l.InQuery reads query to) (l.InQuery x query' to') =
-    query_reads a.queries query || part_reads a reads x
+    query_reads a query || part_reads a reads x
 inside a layer x = false
 
 abbrev pub expr_step : Asked → Over ExprLayer → Is RExpr
@@ -96,9 +108,15 @@ case_step a layer x =
     || (one_does layer.arms (out-RCase x).arms
     || reads_if_any a layer.otherwise (out-RCase x).otherwise)
 
+abbrev pub first_reads : ℕ → Asked → Over ChainLayer → Is RChain
+first_reads zero a layer x = part_reads a layer.first (out-RChain x).first
+first_reads n a layer x = false
+
+-- a chain that a key begins reads what stands behind it
 abbrev pub chain_step : Asked → Over ChainLayer → Is RChain
 chain_step a layer x =
-    part_reads a layer.first (out-RChain x).first || one_does layer.steps (out-RChain x).steps
+    first_reads (steps_begun a.keys x) a layer x
+    || one_behind_does (steps_begun a.keys x) layer.steps (out-RChain x).steps
 
 abbrev pub pair_step : Asked → Over PairLayer → Is RPair
 pair_step a layer x =

@@ -25,7 +25,7 @@ any_of (reads ∷ more) = reads || any_of more
 
 abbrev pub source_step : Asked → SourceLayer Bool Bool → Bool
 source_step a (s.Table name) = false
-source_step a (s.Query query) = query_reads a.queries query
+source_step a (s.Query query) = query_reads a query
 source_step a (s.Value x) = tree_reads a x
 source_step a (s.Joined joins) = any_of joins
 
@@ -58,17 +58,18 @@ reads_within a q =
     any_join_reads a q.from || (one_reads a q.condition || (groups_read a q.groups
     || (some_read a q.items || (one_reads a q.limit || one_reads a q.offset))))
 
-abbrev pub asked_of : List RExpr → ℕ → ℕ → List Bool → Asked
-asked_of keys first end queries = record {
+abbrev pub asked_of : List RExpr → ℕ → ℕ → ℕ → List Bool → Asked
+asked_of keys first end since queries = record {
   keys = keys;
   first = first;
   end = end;
+  since = since;
   queries = queries;
 }
 
 -- of each query, behind those that are told of
-abbrev pub queries_read : List RExpr → ℕ → ℕ → List Bool → List RQuery → List Bool
-queries_read keys first end done [] = done
-queries_read keys first end done (q ∷ qs) =
-    queries_read keys first end
-    (done ++ reads_within (asked_of keys first end done) q ∷ []) qs
+abbrev pub queries_read : List RExpr → ℕ → ℕ → ℕ → List Bool → List RQuery → List Bool
+queries_read keys first end since done [] = done
+queries_read keys first end since done (q ∷ qs) =
+    queries_read keys first end since
+    (done ++ reads_within (asked_of keys first end since done) q ∷ []) qs

@@ -1,6 +1,7 @@
 //! Resolved trees that are equal, and columns that stand outside GROUP BY.
 #![tactic(auto)]
 
+mod fronts;
 mod queries;
 mod same;
 mod search;

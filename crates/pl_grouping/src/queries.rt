@@ -1,6 +1,6 @@
 //! What queries read of the rows around them.
 
-ghost use Rattle.std.specs.Prelude.{◌≡◌, [], IfOk};
+ghost use Rattle.std.specs.Prelude.{◌≡◌, [], drop, IfOk};
 ghost use Rattle.pl_grouping.specs.Queries as spec;
 ghost use Rattle.pl_grouping.specs.Reading as reading;
 ghost use Rattle.pl_grouping.specs.Columns.{asking};
@@ -70,55 +70,78 @@ fn reads_within(query: &RQuery, of: &Asked<'_>) -> bool
         || reads_if_any(&query.offset, of)
 }
 
-// Of each query, whether it does.
+// The queries from this number on.
+fn queries_since(queries: &[RQuery], since: usize) -> &[RQuery]
+    ensures { result.now ≡ drop since queries.now }
+{
+    if since < queries.len() {
+        &queries[since..]
+    } else {
+        &queries[queries.len()..]
+    }
+}
+
+// Of each query, whether it does. The first one has the number `since`.
 fn queries_read(
     alloc: Global,
     keys: &[RExpr],
     queries: &[RQuery],
+    since: usize,
     first: usize,
     end: usize,
 ) -> Result<Vec<bool>, AllocError>
     ensures { IfOk result (λ all. all.items ≡
-        spec.queries_read keys.now first end [] queries.now) }
+        spec.queries_read keys.now first end since [] queries.now) }
 {
     let mut done = Vec::new(alloc);
     let mut rest = queries;
     while let [query, more @ ..] = rest {
-        let does = reads_within(query, &asked_of(keys, first, end, done.as_slice()));
+        let does = reads_within(query, &asked_of(keys, first, end, since, done.as_slice()));
         done.push(does)?;
         rest = more;
     }
     Ok(done)
 }
 
-fn asked_of<'a>(keys: &'a [RExpr], first: usize, end: usize, queries: &'a [bool]) -> Asked<'a>
-    ensures { asking result ≡ spec.asked_of keys.now first end queries.now }
+fn asked_of<'a>(
+    keys: &'a [RExpr],
+    first: usize,
+    end: usize,
+    since: usize,
+    queries: &'a [bool],
+) -> Asked<'a>
+    ensures { asking result ≡ spec.asked_of keys.now first end since queries.now }
 {
     Asked {
         keys,
         first,
         end,
+        since,
         queries,
     }
 }
 
 /// Whether the expression reads a row from `first` on and before `end` outside of each part that
 /// equals a key. The queries inside are looked into, too: an expression names one by its place in
-/// `queries`, where it stands behind those inside it. What isn't in the list reads nothing.
+/// `queries`, where it stands behind those inside it. What isn't in the list, or stands there
+/// before the place `since`, reads nothing.
 #[tactic(auto, unfolding(crate::specs::Reading::reads))]
 pub fn reads(
     alloc: Global,
     keys: &[RExpr],
     queries: &[RQuery],
+    since: usize,
     first: usize,
     end: usize,
     tree: &RExpr,
 ) -> Result<bool, AllocError>
     ensures { IfOk result (λ does.
-        does ≡ reading.reads keys.now queries.now first end tree.now) }
+        does ≡ reading.reads keys.now queries.now since first end tree.now) }
 {
-    let queries = queries_read(alloc, keys, queries, first, end)?;
-    Ok(tree_reads(tree, &asked_of(keys, first, end, queries.as_slice())))
+    let queries = queries_since(queries, since);
+    let queries = queries_read(alloc, keys, queries, since, first, end)?;
+    let asked = asked_of(keys, first, end, since, queries.as_slice());
+    Ok(tree_reads(tree, &asked))
 }
 
 /// Whether one of the expressions does.
@@ -127,13 +150,16 @@ pub fn reads_any(
     alloc: Global,
     keys: &[RExpr],
     queries: &[RQuery],
+    since: usize,
     first: usize,
     end: usize,
     list: &[RExpr],
 ) -> Result<bool, AllocError>
     ensures { IfOk result (λ does.
-        does ≡ reading.reads_any keys.now queries.now first end list.now) }
+        does ≡ reading.reads_any keys.now queries.now since first end list.now) }
 {
-    let queries = queries_read(alloc, keys, queries, first, end)?;
-    Ok(any_reads(list, &asked_of(keys, first, end, queries.as_slice())))
+    let queries = queries_since(queries, since);
+    let queries = queries_read(alloc, keys, queries, since, first, end)?;
+    let asked = asked_of(keys, first, end, since, queries.as_slice());
+    Ok(any_reads(list, &asked))
 }

@@ -301,7 +301,7 @@ fn same_steps(a: &[RStep], b: &[RStep]) -> bool
 }
 
 #[cycle(same_trees)]
-fn same_step(a: &RStep, b: &RStep) -> bool
+pub(crate) fn same_step(a: &RStep, b: &RStep) -> bool
     ensures { result ≡ spec.same_step a.now b.now }
 {
     same_operator(a.operator, b.operator) && same_tree(&a.operand, &b.operand)

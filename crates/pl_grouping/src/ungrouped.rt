@@ -4,6 +4,7 @@ ghost use Rattle.std.specs.Prelude.{◌≡◌, map, option_map};
 ghost use Rattle.pl_grouping.specs.Columns as spec;
 ghost use Rattle.pl_grouping.specs.Columns.{asking};
 
+use crate::fronts::{is_begun_cast, is_begun_unary, steps_begun};
 use crate::same::same_tree;
 use pl_base::Boxed;
 use pl_resolved::{RArm, RCase, RChain, RExpr, RPair, RStep};
@@ -16,7 +17,8 @@ pub(crate) struct Asked<'a> {
     /// The number of the first row of the query's FROM, and that behind its last one.
     pub first: usize,
     pub end: usize,
-    /// Of each query before, whether it reads such a row.
+    /// Of each query from this number on, whether it reads such a row. Those before it read none.
+    pub since: usize,
     pub queries: &'a [bool],
 }
 
@@ -39,9 +41,12 @@ fn is_key(tree: &RExpr, mut keys: &[RExpr]) -> bool
 }
 
 pub(crate) fn query_reads(query: usize, of: &Asked<'_>) -> bool
-    ensures { result ≡ spec.query_reads (asking of.now).queries query }
+    ensures { result ≡ spec.query_reads (asking of.now) query }
 {
-    match of.queries.get(query) {
+    if query < of.since {
+        return false;
+    }
+    match of.queries.get(query - of.since) {
         Some(reads) => *reads,
         None => false,
     }
@@ -65,8 +70,18 @@ fn tree_inside(tree: &RExpr, of: &Asked<'_>) -> bool
     match tree {
         RExpr::Constant(_) => false,
         RExpr::Place { row, .. } => is_own(*row, of),
-        RExpr::Cast { operand, .. } => tree_reads(operand.get(), of),
-        RExpr::Unary { operand, .. } => tree_reads(operand.get(), of),
+        RExpr::Cast { operand, types } => {
+            !is_begun_cast(operand.get(), types.as_slice(), of.keys)
+                && tree_reads(operand.get(), of)
+        }
+        RExpr::Unary {
+            operator,
+            times,
+            operand,
+        } => {
+            !is_begun_unary(operand.get(), *operator, *times, of.keys)
+                && tree_reads(operand.get(), of)
+        }
         RExpr::Binary { operands, .. } => pair_reads(operands.get(), of),
         RExpr::Chain(chain) => chain_reads(chain.get(), of),
         RExpr::And(list) => any_reads(list.as_slice(), of),
@@ -123,16 +138,24 @@ fn pair_reads(pair: &RPair, of: &Asked<'_>) -> bool
 fn chain_reads(chain: &RChain, of: &Asked<'_>) -> bool
     ensures { result ≡ spec.chain_reads (asking of.now) chain.now chain.now }
 {
-    tree_reads(&chain.first, of) || any_step_reads(chain.steps.as_slice(), of)
+    let begun = steps_begun(chain, of.keys);
+    if begun == 0 && tree_reads(&chain.first, of) {
+        return true;
+    }
+    any_step_reads(chain.steps.as_slice(), begun, of)
 }
 
+// Whether one of the operands behind the first ones, so many of them, does.
 #[cycle(reading)]
-fn any_step_reads(steps: &[RStep], of: &Asked<'_>) -> bool
+fn any_step_reads(steps: &[RStep], begun: usize, of: &Asked<'_>) -> bool
     ensures { result ≡
-        spec.one_does (map (spec.step_reads (asking of.now)) steps.now) steps.now }
+        spec.one_behind_does begun (map (spec.step_reads (asking of.now)) steps.now) steps.now }
 {
+    let mut left = begun;
     for step in steps {
-        if tree_reads(&step.operand, of) {
+        if left > 0 {
+            left -= 1;
+        } else if tree_reads(&step.operand, of) {
             return true;
         }
     }

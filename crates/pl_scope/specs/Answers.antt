@@ -1,6 +1,6 @@
 -- What a part means where it stands: something, with what has been made so far, or the SQLSTATE of
 -- its first failing node in reading order.
-use Rattle.std.specs.Prelude.{◌≡◌, Result, Ok, Err}
+use Rattle.std.specs.Prelude.{◌≡◌, ℕ, length, Result, Ok, Err}
 use Rattle.pl_base.specs.declared.state.State.{State}
 use Rattle.pl_names.specs.Names.{Around}
 use Rattle.pl_scope.specs.declared.made.Made.{Made}
@@ -16,8 +16,7 @@ abbrev pub then_answer : {A B : Type 0} → Answer A → (A → Made → Answer 
 then_answer (got x made) f = f x made
 then_answer (fails state) f = fails state
 
--- over what stands around, and what has been made so far: the queries, and the aggregates of the
--- query that is being read
+-- over what stands around, and what has been made so far
 abbrev pub Means : Type 0 → Type 0
 Means A = Around → Made → Answer A
 
@@ -41,12 +40,16 @@ step r = λ a made. settled r made
 abbrev pub asks : {A : Type 0} → (Around → Resolved A) → Means A
 asks f = λ a made. settled (f a) made
 
+-- how many queries there are so far
+abbrev pub queries_made : Means ℕ
+queries_made = λ a made. got (length made.queries) made
+
 -- read elsewhere
 abbrev pub within : {A : Type 0} → (Around → Around) → Means A → Means A
 within f m = λ a made. m (f a) made
 
--- the call gives this, or memory is wanting
-abbrev pub Reads : {A : Type 0} → Answer A → Result A ScopeFail → Made → Type 0
-Reads answer (Ok x) made = answer ≡ got x made
-Reads answer (Err (Fails state)) made = answer ≡ fails state
-Reads answer (Err Memory) made = Unit {0}
+-- the call has this answer, or memory is wanting
+abbrev pub Meets : {A : Type 0} → Answer A → Result A ScopeFail → Made → Type 0
+Meets answer (Ok x) made = answer ≡ got x made
+Meets answer (Err (Fails state)) made = answer ≡ fails state
+Meets answer (Err Memory) made = Unit {0}

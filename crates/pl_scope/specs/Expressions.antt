@@ -13,7 +13,7 @@ use Rattle.pl_resolved.specs.declared.expression.RExpr.TheVariants as r
 use Rattle.pl_resolved.specs.declared.query.Aggregate.{Aggregate}
 use Rattle.pl_resolved.specs.declared.query.Aggregate.TheVariants.{CountRows}
 use Rattle.pl_resolved.specs.declared.query.RAggregate.{RAggregate}
-use Rattle.pl_scope.specs.Answers.{got, fails, Means, ◌>>=◌, gives, step, asks, within}
+use Rattle.pl_scope.specs.Answers.{got, fails, Means, ◌>>=◌, gives, step, asks, queries_made, within}
 use Rattle.pl_scope.specs.Parts.{Part, ArgumentPart, StepPart, ArmPart, QueryPart}
 use Rattle.pl_scope.specs.Steps.{cast_by}
 use Rattle.pl_scope.specs.declared.made.Made.{Made}
@@ -146,24 +146,33 @@ in_query_of is_negated operand query =
 abbrev pub aggregate_at : ℕ → Ty → Name → Around → Typed
 aggregate_at place ty head a = headed (r.Place a.aggregates_row place) ty head
 
+abbrev pub with_aggregate : RAggregate → Made → Made
+with_aggregate x made = record {
+  queries = made.queries;
+  current = record {
+    aggregates = made.current.aggregates ++ x ∷ [];
+    since = made.current.since;
+  };
+}
+
 abbrev pub collected_by : Option ℕ → TypedAggregate → Name → Means Typed
 collected_by (Some place) x head = λ a made. got (aggregate_at place x.ty head a) made
 collected_by None x head = λ a made.
-    got (aggregate_at (length made.aggregates) x.ty head a)
-    (record { queries = made.queries; aggregates = made.aggregates ++ x.aggregate ∷ [] })
+    got (aggregate_at (length made.current.aggregates) x.ty head a) (with_aggregate x.aggregate made)
 
--- whether it names columns, and all of them are of outer queries
-abbrev pub is_of_outer : RAggregate → Around → Made → Bool
-is_of_outer x a made =
-    reads_any [] made.queries 1 a.aggregates_row x.arguments
-    && not (reads_any [] made.queries a.aggregates_row a.next_row x.arguments)
+-- whether it names columns, and all of them are of outer queries; the queries in its arguments are
+-- those from this number on
+abbrev pub is_of_outer : RAggregate → ℕ → Around → Made → Bool
+is_of_outer x since a made =
+    reads_any [] made.queries since 1 a.aggregates_row x.arguments
+    && not (reads_any [] made.queries since a.aggregates_row a.next_row x.arguments)
 
 -- an aggregate is of the query that it stands in
-abbrev pub collected : TypedAggregate → Name → Means Typed
-collected x head = λ a made.
+abbrev pub collected : TypedAggregate → Name → ℕ → Means Typed
+collected x head since = λ a made.
     if a.may_aggregate then
-    (if is_of_outer x.aggregate a made then fails FEATURE_NOT_SUPPORTED
-    else collected_by (aggregate_place x.aggregate 0 made.aggregates) x head a made)
+    (if is_of_outer x.aggregate since a made then fails FEATURE_NOT_SUPPORTED
+    else collected_by (aggregate_place x.aggregate 0 made.current.aggregates) x head a made)
     else fails GROUPING_ERROR
 
 abbrev pub no_aggregates : Around → Around
@@ -193,8 +202,9 @@ function_of name arguments =
 
 abbrev pub aggregate_of : Aggregate → Name → List ArgumentPart → Means Typed
 aggregate_of kind name arguments =
+    queries_made >>= (λ since.
     within no_aggregates (arguments_on arguments no_arguments) >>= (λ all.
-    step (aggregated kind all) >>= (λ x. collected x name))
+    step (aggregated kind all) >>= (λ x. collected x name since)))
 
 abbrev pub call_by : Option Aggregate → Name → List ArgumentPart → Means Typed
 call_by None name arguments = function_of name arguments
@@ -204,4 +214,6 @@ abbrev pub call_of : Name → List ArgumentPart → Means Typed
 call_of name arguments = call_by (aggregate_named name) name arguments
 
 abbrev pub count_rows : Means Typed
-count_rows = step (aggregated CountRows no_arguments) >>= (λ x. collected x (codes "count"))
+count_rows =
+    queries_made >>= (λ since.
+    step (aggregated CountRows no_arguments) >>= (λ x. collected x (codes "count") since))

@@ -10,7 +10,6 @@ use Rattle.pl_names.specs.declared.sources.Items.{Items}
 use Rattle.pl_names.specs.declared.sources.Sourced.{Sourced}
 use Rattle.pl_resolved.specs.declared.expression.RExpr.{RExpr}
 use Rattle.pl_resolved.specs.declared.query.Head.{Head}
-use Rattle.pl_resolved.specs.declared.query.RAggregate.{RAggregate}
 use Rattle.pl_scope.specs.Answers.{Means, ◌>>=◌, gives, step, asks, within, settled}
 use Rattle.pl_scope.specs.Expressions.{call_of, maybe_condition, no_aggregates}
 use Rattle.pl_scope.specs.Parts.{Part, ArgumentPart, FromPart, ItemPart, JoinPart, KeyPart, QueryPart, QueryParts}
@@ -18,6 +17,7 @@ use Rattle.pl_scope.specs.Steps.{begun, clauses, closed, first_row, group_writte
 use Rattle.pl_scope.specs.declared.closing.Arranged.{Arranged}
 use Rattle.pl_scope.specs.declared.closing.Clauses.{Clauses}
 use Rattle.pl_scope.specs.declared.closing.Selected.{Selected}
+use Rattle.pl_scope.specs.declared.made.Current.{Current}
 use Rattle.pl_scope.specs.declared.made.Inner.{Inner}
 use Rattle.pl_scope.specs.declared.ordering.Ordered.{Ordered}
 use Rattle.pl_typing.specs.Typing.{head_of, limited}
@@ -77,7 +77,7 @@ items_on (i ∷ is) sources done = i sources done >>= (λ done. items_on is sour
 abbrev pub group_by : Option ℕ → Part → List RExpr → Means RExpr
 group_by None p values = p.means >>= (λ x. gives x.tree)
 group_by (Some at) p values = λ a made.
-    settled (item_key (slice_get values at) made.queries a.aggregates_row) made
+    settled (item_key (slice_get values at) made.queries made.current.since a.aggregates_row) made
 
 abbrev pub group_on : Part → List Source → Items → Means RExpr
 group_on p sources items =
@@ -136,16 +136,16 @@ arranged q sources heads values =
     gives (record { ordered = ordered; limit = limit; offset = offset }))))
 
 -- its rows are those behind the row of its aggregates
-abbrev pub closing : Clauses → List RAggregate → List Source → Means Inner
+abbrev pub closing : Clauses → Current → List Source → Means Inner
 closing c outer sources = λ a made.
     closed c outer (first_row a) (first_row a + length sources) made
 
--- the aggregates of the query around are put back where it ends
-abbrev pub read : QueryParts → List RAggregate → QueryPart
+-- what is known of the query around is put back where it ends
+abbrev pub read : QueryParts → Current → QueryPart
 read q outer =
     froms_of q.from >>= (λ froms. selected q froms.sources >>= (λ s.
     arranged q froms.sources s.items.heads s.items.values >>= (λ t.
     closing (clauses q.is_distinct froms s t) outer froms.sources)))
 
 abbrev pub query_by : QueryParts → QueryPart
-query_by q = λ a made. read q made.aggregates a (begun made)
+query_by q = λ a made. read q made.current a (begun made)

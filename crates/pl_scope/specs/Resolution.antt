@@ -1,5 +1,5 @@
 -- What a whole tree means: a fold over its levels.
-use Rattle.std.specs.Prelude.{List, [], map, Ok, Err, false}
+use Rattle.std.specs.Prelude.{ℕ, nat_lt, ◌^◌, List, [], map, Ok, Err, Bool, false, if◌then◌else◌}
 use Rattle.std.specs.Option.{option_map}
 use Rattle.pl_base.specs.declared.operator.Operator.TheVariants as operator
 use Rattle.pl_catalog.specs.Objects.{Catalogue, tables_in}
@@ -17,7 +17,7 @@ use Rattle.pl_scope.specs.Queries.{every_item, items_of, query_by}
 use Rattle.pl_scope.specs.declared.made.Inner.{Inner}
 use Rattle.pl_scope.specs.declared.made.Made.{Made}
 use Rattle.pl_scope.specs.declared.written.Written.{Written}
-use Rattle.pl_scope.specs.declared.written.Written.TheVariants.{Place, Called, Other}
+use Rattle.pl_scope.specs.declared.written.Written.TheVariants.{Number, Called, Constant, Other}
 use Rattle.pl_tree.specs.Layers.{ArgumentLayer, ExprLayer, FromLayer, ItemLayer, ArmLayer, FactorLayer}
 use Rattle.pl_tree.specs.Layers.{JoinLayer, KeyLayer, QueryLayer, TermLayer}
 use Rattle.pl_tree.specs.declared.tree.Argument.TheOpen as l
@@ -30,7 +30,7 @@ use Rattle.pl_tree.specs.declared.tree.Item.{Item, fold-Item}
 use Rattle.pl_tree.specs.declared.tree.Join.{Join, out-Join, fold-Join}
 use Rattle.pl_tree.specs.declared.tree.Key.{Key, out-Key, fold-Key}
 use Rattle.pl_tree.specs.declared.tree.Literal.{Literal}
-use Rattle.pl_tree.specs.declared.tree.Literal.TheVariants.{Number}
+use Rattle.pl_tree.specs.declared.tree.Literal.TheVariants as literal
 use Rattle.pl_tree.specs.declared.tree.Query.{Query, out-Query, fold-Query}
 use Rattle.pl_tree.specs.declared.tree.Term.{Term, out-Term, fold-Term}
 use Rattle.pl_typing.specs.Literals.{literal_means}
@@ -49,9 +49,14 @@ abbrev pub Over : Kinds → Type 0
 Over F =
     F ArgumentPart Part FromPart ItemPart ArmPart StepPart JoinPart KeyPart QueryPart StepPart
 
+-- a number that 32 bits hold
+abbrev pub number_written : Bool → ℕ → Written
+number_written is_negative size =
+    if nat_lt size (2 ^ 31) then Number is_negative size else Constant
+
 abbrev pub literal_written : Literal → Written
-literal_written (Number is_negative size) = Place is_negative size
-literal_written x = Other
+literal_written (literal.Number is_negative size) = number_written is_negative size
+literal_written x = Constant
 
 abbrev pub written_step : Over ExprLayer → Written
 written_step (l.Literal x) = literal_written x
@@ -261,7 +266,7 @@ standing catalogue scope = record {
 }
 
 abbrev pub nothing_made : Made
-nothing_made = record { queries = []; aggregates = [] }
+nothing_made = record { queries = []; current = record { aggregates = []; since = 0 } }
 
 abbrev pub as_expr : Answer Typed → Resolved ResolvedExpr
 as_expr (got x made) = Ok (record { typed = x; queries = made.queries })

@@ -3,7 +3,7 @@ use Rattle.std.specs.Prelude.{bytes_eq, slice_get}
 use Rattle.std.specs.Prelude.{length, Option, Some, None, Ok, Err, Bool, true, false, if◌then◌else◌}
 use Rattle.std.specs.Prelude.{ℕ, zero, suc, ◌+◌, ◌&&◌, ◌||◌, not, nat_lt, is_some, List, [], ◌∷◌, ◌++◌}
 use Rattle.pl_base.specs.States.{INVALID_COLUMN_REFERENCE, AMBIGUOUS_COLUMN, GROUPING_ERROR}
-use Rattle.pl_base.specs.States.{UNDEFINED_OBJECT}
+use Rattle.pl_base.specs.States.{UNDEFINED_OBJECT, SYNTAX_ERROR}
 use Rattle.pl_base.specs.declared.types.Ty.{Ty}
 use Rattle.pl_catalog.specs.declared.object.TableDef.{TableDef}
 use Rattle.pl_grouping.specs.Equality.{same}
@@ -27,10 +27,11 @@ use Rattle.pl_scope.specs.Answers.{Answer, got, fails}
 use Rattle.pl_scope.specs.declared.closing.Arranged.{Arranged}
 use Rattle.pl_scope.specs.declared.closing.Clauses.{Clauses}
 use Rattle.pl_scope.specs.declared.closing.Selected.{Selected}
+use Rattle.pl_scope.specs.declared.made.Current.{Current}
 use Rattle.pl_scope.specs.declared.made.Inner.{Inner}
 use Rattle.pl_scope.specs.declared.made.Made.{Made}
 use Rattle.pl_scope.specs.declared.ordering.Ordered.{Ordered}
-use Rattle.pl_scope.specs.declared.written.Written.TheVariants.{Place, Called, Other}
+use Rattle.pl_scope.specs.declared.written.Written.TheVariants.{Number, Called, Constant, Other}
 use Rattle.pl_scope.specs.declared.written.Written.{Written}
 use Rattle.pl_tree.specs.declared.tree.JoinKind.TheVariants as way
 use Rattle.pl_tree.specs.declared.tree.JoinKind.{JoinKind}
@@ -148,9 +149,10 @@ named_on x at (h ∷ hs) values found =
 
 -- the output column that a key means as it is written, if it means one
 unfoldable pub output_of : Written → List Head → List RExpr → Resolved (Option ℕ)
-output_of (Place is_negative n) heads values =
+output_of (Number is_negative n) heads values =
     place_at is_negative n (length heads) >>= (λ at. Ok (Some at))
 output_of (Called x) heads values = named_on x 0 heads values None
+output_of Constant heads values = Err SYNTAX_ERROR
 output_of Other heads values = Ok None
 
 -- ---- GROUP BY
@@ -164,10 +166,10 @@ group_written (Called x) sources = called_in x sources
 group_written written sources = written
 
 -- an item that has no aggregate of this query
-abbrev pub item_key : Option RExpr → List RQuery → ℕ → Resolved RExpr
-item_key None queries row = Err INVALID_COLUMN_REFERENCE
-item_key (Some tree) queries row =
-    if reads [] queries row (row + 1) tree then Err GROUPING_ERROR else Ok tree
+abbrev pub item_key : Option RExpr → List RQuery → ℕ → ℕ → Resolved RExpr
+item_key None queries since row = Err INVALID_COLUMN_REFERENCE
+item_key (Some tree) queries since row =
+    if reads [] queries since row (row + 1) tree then Err GROUPING_ERROR else Ok tree
 
 -- ---- ORDER BY
 
@@ -216,14 +218,15 @@ is_empty (x ∷ xs) = false
 abbrev pub is_grouped : Clauses → List RAggregate → Bool
 is_grouped c aggregates = not (is_empty c.keys) || is_some c.having || not (is_empty aggregates)
 
-abbrev pub reads_maybe : List RExpr → List RQuery → ℕ → ℕ → Option RExpr → Bool
-reads_maybe keys queries first end None = false
-reads_maybe keys queries first end (Some tree) = reads keys queries first end tree
+abbrev pub reads_maybe : List RExpr → List RQuery → ℕ → ℕ → ℕ → Option RExpr → Bool
+reads_maybe keys queries since first end None = false
+reads_maybe keys queries since first end (Some tree) = reads keys queries since first end tree
 
 -- a column of the query's own rows outside of the groups' keys
-abbrev pub is_ungrouped : Clauses → List RQuery → ℕ → ℕ → Bool
-is_ungrouped c queries first end =
-    reads_any c.keys queries first end c.values || reads_maybe c.keys queries first end c.having
+abbrev pub is_ungrouped : Clauses → Made → ℕ → ℕ → Bool
+is_ungrouped c made first end =
+    reads_any c.keys made.queries made.current.since first end c.values
+    || reads_maybe c.keys made.queries made.current.since first end c.having
 
 abbrev pub groups_of : Clauses → List RAggregate → Option RGroups
 groups_of c aggregates =
@@ -246,17 +249,17 @@ query_of c aggregates = record {
 abbrev pub as_inner : RQuery → Made → Inner
 as_inner query made = record { number = length made.queries; heads = query.heads }
 
--- with the query behind those inside it, and the aggregates of the one around
-abbrev pub made_with : RQuery → List RAggregate → Made → Made
-made_with query outer made = record { queries = made.queries ++ query ∷ []; aggregates = outer }
+-- with the query behind those inside it, and what is known of the one around
+abbrev pub made_with : RQuery → Current → Made → Made
+made_with query outer made = record { queries = made.queries ++ query ∷ []; current = outer }
 
-abbrev pub closed_as : RQuery → List RAggregate → Made → Answer Inner
+abbrev pub closed_as : RQuery → Current → Made → Answer Inner
 closed_as query outer made = got (as_inner query made) (made_with query outer made)
 
-unfoldable pub closed : Clauses → List RAggregate → ℕ → ℕ → Made → Answer Inner
+unfoldable pub closed : Clauses → Current → ℕ → ℕ → Made → Answer Inner
 closed c outer first end made =
-    if is_grouped c made.aggregates && is_ungrouped c made.queries first end
-    then fails GROUPING_ERROR else closed_as (query_of c made.aggregates) outer made
+    if is_grouped c made.current.aggregates && is_ungrouped c made first end
+    then fails GROUPING_ERROR else closed_as (query_of c made.current.aggregates) outer made
 
 abbrev pub clauses : Bool → Sourced → Selected → Arranged → Clauses
 clauses is_distinct froms s t = record {
@@ -273,4 +276,7 @@ clauses is_distinct froms s t = record {
 }
 
 abbrev pub begun : Made → Made
-begun made = record { queries = made.queries; aggregates = [] }
+begun made = record {
+  queries = made.queries;
+  current = record { aggregates = []; since = length made.queries };
+}

@@ -1,10 +1,10 @@
 //! The end of a query, where all its clauses have been read.
 
 ghost use Rattle.std.specs.Prelude.{◌≡◌, IfOk};
-ghost use Rattle.pl_scope.specs.Answers.{Reads};
+ghost use Rattle.pl_scope.specs.Answers.{Meets};
 ghost use Rattle.pl_scope.specs.Steps as spec;
 
-use crate::{Inner, Made, Ordered};
+use crate::{Current, Inner, Made, Ordered};
 use pl_base::{Boxed, List, State};
 use pl_grouping::{reads, reads_any};
 use pl_names::Items;
@@ -60,34 +60,38 @@ fn reads_maybe(
     alloc: Global,
     keys: &[RExpr],
     queries: &[RQuery],
+    since: usize,
     first: usize,
     end: usize,
     tree: &Option<Boxed<RExpr>>,
 ) -> Result<bool, AllocError>
-    ensures { IfOk result (λ does. does ≡ spec.reads_maybe keys.now queries.now first end
+    ensures { IfOk result (λ does. does ≡ spec.reads_maybe keys.now queries.now since first end
         tree.now) }
 {
     match tree {
         None => Ok(false),
-        Some(tree) => reads(alloc, keys, queries, first, end, tree.get()),
+        Some(tree) => reads(alloc, keys, queries, since, first, end, tree.get()),
     }
 }
 
 fn is_ungrouped(
     alloc: Global,
     clauses: &Clauses,
-    queries: &[RQuery],
+    made: &Made,
     first: usize,
     end: usize,
 ) -> Result<bool, AllocError>
-    ensures { IfOk result (λ is. is ≡ spec.is_ungrouped clauses.now queries.now first end) }
+    ensures { IfOk result (λ is. is ≡ spec.is_ungrouped clauses.now made.now first end) }
 {
     let keys = clauses.keys.as_slice();
-    let reads_column = reads_any(alloc, keys, queries, first, end, clauses.values.as_slice())?;
+    let queries = made.queries.as_slice();
+    let since = made.current.since;
+    let values = clauses.values.as_slice();
+    let reads_column = reads_any(alloc, keys, queries, since, first, end, values)?;
     if reads_column {
         return Ok(true);
     }
-    reads_maybe(alloc, keys, queries, first, end, &clauses.having)
+    reads_maybe(alloc, keys, queries, since, first, end, &clauses.having)
 }
 
 fn query_of(clauses: Clauses, aggregates: List<RAggregate>) -> RQuery
@@ -131,37 +135,35 @@ fn query_of(clauses: Clauses, aggregates: List<RAggregate>) -> RQuery
 fn closed_as(
     alloc: Global,
     query: RQuery,
-    outer: List<RAggregate>,
+    outer: Current,
     made: &mut Made,
 ) -> Result<Inner, ScopeFail>
-    ensures { Reads (spec.closed_as query outer made.old) result made.new }
+    ensures { Meets (spec.closed_as query outer made.old) result made.new }
 {
     let heads = List::from_slice(alloc, query.heads.as_slice())?;
     let number = made.queries.len();
     made.queries.push(query)?;
-    made.aggregates = outer;
+    made.current = outer;
     Ok(Inner { number, heads })
 }
 
-/// Puts the query behind those inside it, and the aggregates of the one around back. 42803 where a
+/// Puts the query behind those inside it, and what was known of the one around back. 42803 where a
 /// column of its own rows, which begin at `first` and end before `end`, stands outside the groups.
 #[tactic(auto, unfolding(crate::specs::Steps::closed))]
 pub fn close(
     alloc: Global,
     clauses: Clauses,
-    outer: List<RAggregate>,
+    outer: Current,
     first: usize,
     end: usize,
     made: &mut Made,
 ) -> Result<Inner, ScopeFail>
-    ensures { Reads (spec.closed clauses outer first end made.old) result made.new }
+    ensures { Meets (spec.closed clauses outer first end made.old) result made.new }
 {
-    if is_grouped(&clauses, made.aggregates.as_slice()) {
-        let queries = made.queries.as_slice();
-        if is_ungrouped(alloc, &clauses, queries, first, end)? {
-            return Err(ScopeFail::State(State::GROUPING_ERROR));
-        }
+    let is_grouped = is_grouped(&clauses, made.current.aggregates.as_slice());
+    if is_grouped && is_ungrouped(alloc, &clauses, &*made, first, end)? {
+        return Err(ScopeFail::State(State::GROUPING_ERROR));
     }
-    let aggregates = mem::replace(&mut made.aggregates, List::new(alloc));
+    let aggregates = mem::replace(&mut made.current.aggregates, List::new(alloc));
     closed_as(alloc, query_of(clauses, aggregates), outer, made)
 }

@@ -2,8 +2,9 @@
 
 ghost use Rattle.std.specs.Prelude.{◌≡◌, codes, IfOk};
 ghost use Rattle.pl_names.specs.Names.{around};
-ghost use Rattle.pl_scope.specs.Answers.{Reads};
+ghost use Rattle.pl_scope.specs.Answers.{Meets, settled, then_answer};
 ghost use Rattle.pl_scope.specs.Expressions as spec;
+ghost use Rattle.pl_typing.specs.Aggregates as typing;
 
 use crate::Made;
 use pl_base::{Boxed, Name, State, Ty};
@@ -36,20 +37,22 @@ fn aggregate_at(
 fn is_of_outer(
     alloc: Global,
     aggregate: &RAggregate,
+    since: usize,
     names: &Names<'_>,
     made: &Made,
 ) -> Result<bool, AllocError>
-    ensures { IfOk result (λ is. is ≡ spec.is_of_outer aggregate.now (around names.now) made.now) }
+    ensures { IfOk result (λ is. is ≡ spec.is_of_outer aggregate.now since (around names.now)
+        made.now) }
 {
     let none: [RExpr; 0] = [];
     let queries = made.queries.as_slice();
     let arguments = aggregate.arguments.as_slice();
-    let reads_outer = reads_any(alloc, &none, queries, 1, names.aggregates_row, arguments)?;
+    let own = names.aggregates_row;
+    let reads_outer = reads_any(alloc, &none, queries, since, 1, own, arguments)?;
     if !reads_outer {
         return Ok(false);
     }
-    let from = names.aggregates_row;
-    let reads_own = reads_any(alloc, &none, queries, from, names.next_row, arguments)?;
+    let reads_own = reads_any(alloc, &none, queries, since, own, names.next_row, arguments)?;
     Ok(!reads_own)
 }
 
@@ -61,39 +64,61 @@ fn collected_by(
     names: &Names<'_>,
     made: &mut Made,
 ) -> Result<Typed, ScopeFail>
-    ensures { Reads (spec.collected_by found aggregated head (around names.now) made.old) result
+    ensures { Meets (spec.collected_by found aggregated head (around names.now) made.old) result
         made.new }
 {
     let TypedAggregate { aggregate, ty } = aggregated;
     match found {
         Some(place) => Ok(aggregate_at(alloc, place, ty, head, names)?),
         None => {
-            let typed = aggregate_at(alloc, made.aggregates.len(), ty, head, names)?;
-            made.aggregates.push(aggregate)?;
+            let typed = aggregate_at(alloc, made.current.aggregates.len(), ty, head, names)?;
+            made.current.aggregates.push(aggregate)?;
             Ok(typed)
         }
     }
 }
 
 /// The aggregate as one of the query that is being read. 42803 where no aggregate may stand, 0A000
-/// where it names columns and all of them are of outer queries.
-pub fn collected(
+/// where it names columns and all of them are of outer queries. The queries in its arguments have
+/// no number lower than `since`.
+fn collected(
     alloc: Global,
     aggregated: TypedAggregate,
     head: Name,
+    since: usize,
     names: &Names<'_>,
     made: &mut Made,
 ) -> Result<Typed, ScopeFail>
-    ensures { Reads (spec.collected aggregated head (around names.now) made.old) result made.new }
+    ensures { Meets (spec.collected aggregated head since (around names.now) made.old) result
+        made.new }
 {
     if !names.may_aggregate {
         return Err(ScopeFail::State(State::GROUPING_ERROR));
     }
-    if is_of_outer(alloc, &aggregated.aggregate, names, &*made)? {
+    if is_of_outer(alloc, &aggregated.aggregate, since, names, &*made)? {
         return Err(ScopeFail::State(State::FEATURE_NOT_SUPPORTED));
     }
-    let found = aggregate_place(&aggregated.aggregate, made.aggregates.as_slice());
+    let found = aggregate_place(&aggregated.aggregate, made.current.aggregates.as_slice());
     collected_by(alloc, found, aggregated, head, names, made)
+}
+
+/// The aggregate of these arguments, by `collected`. 42883 where there is none that takes them.
+pub fn collect(
+    alloc: Global,
+    kind: Aggregate,
+    arguments: Arguments,
+    head: Name,
+    since: usize,
+    names: &Names<'_>,
+    made: &mut Made,
+) -> Result<Typed, ScopeFail>
+    ensures { Meets (then_answer (settled (typing.aggregated kind arguments) made.old) (λ x more.
+        spec.collected x head since (around names.now) more)) result made.new }
+{
+    match aggregated(alloc, kind, arguments) {
+        Ok(aggregated) => collected(alloc, aggregated, head, since, names, made),
+        Err(fail) => Err(fail),
+    }
 }
 
 fn count_heading() -> Name
@@ -104,10 +129,17 @@ fn count_heading() -> Name
 
 /// `count(*)`, by `collected`.
 pub fn count_rows(alloc: Global, names: &Names<'_>, made: &mut Made) -> Result<Typed, ScopeFail>
-    ensures { Reads (spec.count_rows (around names.now) made.old) result made.new }
+    ensures { Meets (spec.count_rows (around names.now) made.old) result made.new }
 {
-    match aggregated(alloc, Aggregate::CountRows, Arguments::new(alloc)) {
-        Ok(aggregated) => collected(alloc, aggregated, count_heading(), names, made),
-        Err(fail) => Err(fail),
-    }
+    let since = made.queries.len();
+    let none = Arguments::new(alloc);
+    collect(
+        alloc,
+        Aggregate::CountRows,
+        none,
+        count_heading(),
+        since,
+        names,
+        made,
+    )
 }

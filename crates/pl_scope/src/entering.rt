@@ -3,6 +3,7 @@
 ghost use Rattle.std.specs.Prelude.{◌≡◌, ◌+◌, ◌<◌, ◌^◌, [], ◌∷◌, ◌++◌, map, IfOk};
 ghost use Rattle.pl_catalog.specs.Objects.{tables_in};
 ghost use Rattle.pl_names.specs.Names.{around, reach};
+ghost use Rattle.pl_scope.specs.Expressions.{no_aggregates};
 ghost use Rattle.pl_scope.specs.Steps as spec;
 
 use pl_base::{Boxed, List, Memory};
@@ -57,6 +58,16 @@ pub fn inside<'a>(
         next_row,
         aggregates_row,
         may_aggregate,
+    }
+}
+
+/// The same, where no aggregate may stand.
+pub fn without_aggregates<'a>(names: &Names<'a>) -> Names<'a>
+    ensures { around result ≡ no_aggregates (around names.now) }
+{
+    Names {
+        may_aggregate: false,
+        ..*names
     }
 }
 

@@ -6,14 +6,15 @@ mod casting;
 mod closing;
 mod collecting;
 mod entering;
+mod expressions;
 mod made;
 mod ordering;
-mod parts;
+mod queries;
 mod resolve;
 mod written;
 
 pub use closing::{Arranged, Clauses, Selected};
-pub use made::{Inner, Made};
+pub use made::{Current, Inner, Made};
 pub use ordering::Ordered;
 pub use resolve::{ResolvedExpr, resolve_expr, resolve_query};
 pub use written::Written;

@@ -9,12 +9,19 @@ use pl_resolved::{Head, RAggregate, RQuery};
 use std::alloc::Global;
 use std::mem;
 
-/// The queries so far, each behind those inside it, and the aggregates of the query that is being
-/// read.
+/// The queries so far, each behind those inside it, and what is known of the one being read.
 #[derive(Drop)]
 pub struct Made {
     pub queries: List<RQuery>,
+    pub current: Current,
+}
+
+/// The query that is being read, as far as it has been.
+#[derive(Drop)]
+pub struct Current {
     pub aggregates: List<RAggregate>,
+    /// How many queries there were when it began. Those that it names have no lower number.
+    pub since: usize,
 }
 
 /// A query that has been resolved: its number, and the columns of its rows.
@@ -31,15 +38,22 @@ impl Made {
     {
         Made {
             queries: List::new(alloc),
-            aggregates: List::new(alloc),
+            current: Current {
+                aggregates: List::new(alloc),
+                since: 0,
+            },
         }
     }
 
-    /// Begins a query: gives the aggregates of the one around.
-    pub fn begin(&mut self, alloc: Global) -> List<RAggregate>
-        ensures outer { result ≡ self.old.aggregates }
+    /// Begins a query, and gives what was known of the one around.
+    pub fn begin(&mut self, alloc: Global) -> Current
+        ensures outer { result ≡ self.old.current }
         ensures begun { self.new ≡ spec.begun self.old }
     {
-        mem::replace(&mut self.aggregates, List::new(alloc))
+        let current = Current {
+            aggregates: List::new(alloc),
+            since: self.queries.len(),
+        };
+        mem::replace(&mut self.current, current)
     }
 }

@@ -80,7 +80,8 @@ fn named_on(name: Name, heads: &[Head], values: &[RExpr]) -> Result<Option<usize
 }
 
 /// The output column that a key means as it is written, if it means one. 42P10 where a number is
-/// out of range, 42702 where two columns of the name are different expressions.
+/// out of range, 42601 where there is another constant, 42702 where two columns of the name are
+/// different expressions.
 #[tactic(auto, unfolding(crate::specs::Steps::output_of))]
 pub fn output_of(
     written: Written,
@@ -90,24 +91,26 @@ pub fn output_of(
     ensures { Gives result (spec.output_of written heads.now values.now) }
 {
     match written {
-        Written::Place { is_negative, size } => match place_at(is_negative, size, heads.len()) {
+        Written::Number { is_negative, size } => match place_at(is_negative, size, heads.len()) {
             Ok(at) => Ok(Some(at)),
             Err(fail) => Err(fail),
         },
         Written::Called(name) => named_on(name, heads, values),
+        Written::Constant => Err(ScopeFail::State(State::SYNTAX_ERROR)),
         Written::Other => Ok(None),
     }
 }
 
 /// The item of this place as a key of GROUP BY. 42803 where it has an aggregate of this query,
-/// whose row is the one of this number.
+/// whose row is the one of this number. The queries inside it have no number lower than `since`.
 pub fn item_key(
     alloc: Global,
     item: Option<&RExpr>,
     queries: &[RQuery],
+    since: usize,
     row: usize,
 ) -> Result<Boxed<RExpr>, ScopeFail>
-    ensures { Gives result (spec.item_key (option_copied item.entry) queries.now row) }
+    ensures { Gives result (spec.item_key (option_copied item.entry) queries.now since row) }
 {
     let none: [RExpr; 0] = [];
     let Some(tree) = item else {
@@ -116,7 +119,7 @@ pub fn item_key(
     let Some(end) = row.checked_add(1) else {
         return Err(ScopeFail::Memory);
     };
-    if reads(alloc, &none, queries, row, end, tree)? {
+    if reads(alloc, &none, queries, since, row, end, tree)? {
         return Err(ScopeFail::State(State::GROUPING_ERROR));
     }
     Ok(Boxed::new(alloc, tree.copy(alloc)?)?)

@@ -5,7 +5,8 @@ ghost use Rattle.pl_typing.specs.Resolved.{Gives};
 
 use crate::Made;
 use crate::entering::inside;
-use crate::parts::{expr, query};
+use crate::expressions::expr;
+use crate::queries::query;
 use pl_base::List;
 use pl_catalog::Catalog;
 use pl_names::{Level, Scope};

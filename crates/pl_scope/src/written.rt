@@ -11,8 +11,10 @@ use pl_tree::{Expr, Literal};
 /// How an expression is written, where a bare number or a bare name means more.
 #[derive(Clone, Copy)]
 pub enum Written {
-    /// A number.
-    Place { is_negative: bool, size: u64 },
+    /// A number of less than 2^31, without its sign.
+    Number { is_negative: bool, size: u64 },
+    /// Another constant.
+    Constant,
     /// A name without a qualifier.
     Called(Name),
     Other,
@@ -22,13 +24,20 @@ fn literal_written(literal: &Literal) -> Written
     ensures { result ≡ spec.literal_written literal.now }
 {
     match literal {
-        Literal::Number { is_negative, size } => Written::Place {
-            is_negative: *is_negative,
-            size: *size,
-        },
-        Literal::Null => Written::Other,
-        Literal::Bool(_) => Written::Other,
-        Literal::Text(_) => Written::Other,
+        Literal::Number { is_negative, size } => number_written(*is_negative, *size),
+        Literal::Null => Written::Constant,
+        Literal::Bool(_) => Written::Constant,
+        Literal::Text(_) => Written::Constant,
+    }
+}
+
+fn number_written(is_negative: bool, size: u64) -> Written
+    ensures { result ≡ spec.number_written is_negative size }
+{
+    if size < 1 << 31 {
+        Written::Number { is_negative, size }
+    } else {
+        Written::Constant
     }
 }
 
@@ -75,7 +84,8 @@ pub fn group_written(written: Written, sources: &[Source]) -> Written
 {
     match written {
         Written::Called(x) => called_in(x, sources),
-        Written::Place { is_negative, size } => Written::Place { is_negative, size },
+        Written::Number { is_negative, size } => Written::Number { is_negative, size },
+        Written::Constant => Written::Constant,
         Written::Other => Written::Other,
     }
 }

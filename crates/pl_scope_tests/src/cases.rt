@@ -281,6 +281,64 @@ SELECT * FROM length('x') AS y  ->  y integer
 SELECT y FROM length('x') AS y  ->  y integer
 SELECT 1 FROM length(a)  ->  42703
 SELECT 1 FROM t, length(x)  ->  42703
+SELECT a FROM t ORDER BY 'x'  ->  42601
+SELECT a FROM t ORDER BY NULL  ->  42601
+SELECT a FROM t ORDER BY true  ->  42601
+SELECT a FROM t ORDER BY 2147483647  ->  42P10
+SELECT a FROM t ORDER BY 2147483648  ->  42601
+SELECT a FROM t ORDER BY -2147483648  ->  42601
+SELECT a FROM t ORDER BY +1  ->  a integer
+SELECT a FROM t ORDER BY ('x')  ->  42601
+SELECT a FROM t ORDER BY 'x'::text  ->  a integer
+SELECT DISTINCT a FROM t ORDER BY 'x'  ->  42601
+SELECT a FROM t GROUP BY a, NULL  ->  42601
+SELECT a FROM t GROUP BY false, a  ->  42601
+SELECT a FROM t GROUP BY 2147483647  ->  42P10
+SELECT a FROM t GROUP BY 3000000000  ->  42601
+SELECT a FROM t ORDER BY 'x', nope  ->  42601
+SELECT a FROM t ORDER BY nope, 'x'  ->  42703
+SELECT nope FROM t ORDER BY 'x'  ->  42703
+SELECT a FROM t ORDER BY 'x' LIMIT nope  ->  42601
+SELECT a FROM t WHERE nope GROUP BY 'x'  ->  42703
+SELECT a + b + 1 FROM t GROUP BY a + b  ->  ?column? bigint
+SELECT a + 1 - 1 FROM t GROUP BY a + 1  ->  ?column? integer
+SELECT s || 'x' || 'y' FROM t GROUP BY s || 'x'  ->  ?column? text
+SELECT s || 'x' || a FROM t GROUP BY s || 'x'  ->  42803
+SELECT s || 'x' || a FROM t GROUP BY s || 'x', a  ->  ?column? text
+SELECT a::text::integer FROM t GROUP BY a::text  ->  a integer
+SELECT a::text::integer + 1 FROM t GROUP BY a::text  ->  ?column? integer
+SELECT a::text FROM t GROUP BY a::text::integer  ->  42803
+SELECT a::bigint::text FROM t GROUP BY a::text  ->  42803
+SELECT - -a FROM t GROUP BY -a  ->  ?column? integer
+SELECT -a FROM t GROUP BY - -a  ->  42803
+SELECT NOT NOT NOT f FROM t GROUP BY NOT NOT f  ->  ?column? boolean
+SELECT NOT f FROM t GROUP BY NOT NOT f  ->  42803
+SELECT a + 1 FROM t GROUP BY a + 1 - 1  ->  42803
+SELECT a - 1 + 2 FROM t GROUP BY a + 1  ->  42803
+SELECT a + b - b FROM t GROUP BY a + b  ->  42803
+SELECT a + b + b FROM t GROUP BY a + b, b  ->  ?column? bigint
+SELECT 1 FROM t GROUP BY a + b HAVING a + b - 1 = 0  ->  ?column? integer
+SELECT 1 FROM t GROUP BY a + b ORDER BY a + b + 1  ->  ?column? integer
+SELECT a + 1 + 2 + b FROM t GROUP BY a + 1 + 2, a + 1  ->  42803
+SELECT a + 1 + 2 + 3 FROM t GROUP BY a + 1 + 2, a + 1  ->  ?column? integer
+SELECT a * 2 + 3 FROM t GROUP BY a * 2  ->  ?column? integer
+SELECT a + 1 * 3 FROM t GROUP BY a + 1  ->  42803
+SELECT (a + 1) * 3 FROM t GROUP BY a + 1  ->  ?column? integer
+SELECT a + (1 + 3) FROM t GROUP BY a + 1  ->  42803
+SELECT f AND a = 1 AND b = 1 FROM t GROUP BY f AND a = 1, b  ->  42803
+SELECT f OR a = 1 FROM t GROUP BY f AND a = 1  ->  42803
+SELECT DISTINCT a + 1 FROM t ORDER BY a + 1 + 1  ->  42P10
+SELECT (SELECT count(*) FROM n) FROM t GROUP BY a  ->  count bigint
+SELECT (SELECT count(*) FROM n) FROM t GROUP BY a HAVING (SELECT max(c) FROM n) > a  ->  count bigint
+SELECT (SELECT 1), (SELECT max(c) + b FROM n) FROM t GROUP BY a  ->  42803
+SELECT (SELECT 1), (SELECT max(c) + a FROM n) FROM t GROUP BY a  ->  ?column? integer,?column? integer
+SELECT (SELECT 1), max((SELECT c + a FROM n)) FROM t GROUP BY b  ->  ?column? integer,max integer
+SELECT (SELECT 1 FROM n) AS x, (SELECT t.a FROM n) AS y FROM t GROUP BY x, y  ->  x integer,y integer
+SELECT (SELECT 1 FROM n), count(*) FROM t GROUP BY 1  ->  ?column? integer,count bigint
+SELECT 1 FROM t JOIN u ON n.c = 1, n  ->  42P01
+SELECT 1 FROM (t JOIN u ON n.c = 1) JOIN n ON true  ->  42P01
+SELECT 1 FROM t, (SELECT t.a) x  ->  42P01
+SELECT 1 FROM (SELECT u.a) x, u  ->  42P01
 SELECT x, q.a FROM t  ->  42703
 SELECT x, a + s FROM t  ->  42703
 SELECT x, nosuch(1) FROM t  ->  42703

@@ -10,3 +10,5 @@ mod columns;
 mod places;
 #[cfg(test)]
 mod tables;
+#[cfg(test)]
+mod trees;

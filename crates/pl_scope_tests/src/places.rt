@@ -1,20 +1,23 @@
-//! The places that names become, worked out by hand: row 0 has the variables and parameters, each
-//! query a row of its aggregates, and then one for each item of its FROM.
+//! The places that names become, the casts that nobody wrote and the types that settle, worked out by
+//! hand: row 0 has the variables and parameters, each query a row of its aggregates, and then one for
+//! each item of its FROM.
 
 use crate::columns::push_head;
 use crate::tables::{catalog, no_scope, state_of, three_blocks};
+use crate::trees::{Words, write_tree};
 use pl_base::Memory;
 use pl_catalog::Catalog;
 use pl_expr_parse::{parse_expr, parse_query};
 use pl_lex::lex;
 use pl_names::Scope;
-use pl_resolved::{Head, RExpr, RQuery};
+use pl_resolved::{Head, RQuery};
 use pl_scope::{ResolvedExpr, resolve_expr, resolve_query};
 use pl_tree::{Expr, Query};
+use pl_typing::ScopeFail;
 use std::alloc::Global;
 
-/// Lines `query  ->  items`, of each query inside it and then of the query. An item that is a place
-/// stands there as its row and its column, a cast of one has `::` behind it, another item is `?`.
+/// Lines `query  ->  items`, of each query inside it and then of the query, as `write_tree` writes
+/// them.
 const PLACES: &str = r#"
 SELECT a FROM t  ->  2.0
 SELECT b FROM t  ->  2.1
@@ -24,31 +27,62 @@ SELECT y.b, z.c FROM t x JOIN (t y JOIN n z ON true) ON true  ->  3.1 4.0
 SELECT * FROM n, u  ->  2.0 3.0 3.1 3.2
 SELECT u.*, c FROM u LEFT JOIN n ON true WHERE a = n.c  ->  42702
 SELECT u.*, n.c FROM u LEFT JOIN n ON true WHERE a = n.c  ->  2.0 2.1 2.2 3.0
-SELECT a::text, 1, a + 1 FROM t  ->  2.0:: ? ?
+SELECT a::text, 1, a + 1 FROM t  ->  2.0::text 1 (2.0 + 1)
 SELECT count(*), sum(a) FROM t  ->  1.0 1.1
 SELECT count(*), count(a), count(*) FROM t  ->  1.0 1.1 1.0
-SELECT 1 FROM t HAVING count(*) = 1  ->  ?
+SELECT 1 FROM t HAVING count(*) = 1  ->  1
 SELECT b FROM t GROUP BY b HAVING sum(a) > 1 ORDER BY max(a)  ->  2.1 1.1
 SELECT a FROM t ORDER BY b, a, b  ->  2.0 2.1
 SELECT a AS b FROM t ORDER BY b, t.b  ->  2.0 2.1
-SELECT (SELECT c FROM n) FROM t  ->  4.0 | ?
-SELECT (SELECT t.b FROM n) FROM t  ->  2.1 | ?
-SELECT (SELECT b FROM n) FROM u, t  ->  3.1 | ?
-SELECT (SELECT count(*) FROM n), sum(a) FROM t  ->  3.0 | ? 1.0
+SELECT (SELECT c FROM n) FROM t  ->  4.0 | #0
+SELECT (SELECT t.b FROM n) FROM t  ->  2.1 | #0
+SELECT (SELECT b FROM n) FROM u, t  ->  3.1 | #0
+SELECT (SELECT count(*) FROM n), sum(a) FROM t  ->  3.0 | #0 1.0
 SELECT x.c FROM (SELECT c FROM n) x  ->  2.0 | 2.0
 SELECT x.c FROM t, (SELECT c FROM n) x  ->  2.0 | 3.0
-SELECT 1 FROM t x JOIN t y ON EXISTS (SELECT c FROM n) CROSS JOIN u  ->  5.0 | ?
+SELECT 1 FROM t x JOIN t y ON EXISTS (SELECT c FROM n) CROSS JOIN u  ->  5.0 | 1
 SELECT a FROM t x WHERE EXISTS (SELECT x.b, c FROM n) LIMIT (SELECT c FROM n)  ->  2.1 4.0 | 2.0 | 2.0
-SELECT (SELECT (SELECT x.a FROM n) FROM u) FROM t x  ->  2.0 | ? | ?
+SELECT (SELECT (SELECT x.a FROM n) FROM u) FROM t x  ->  2.0 | #0 | #1
+SELECT a + b, a = b, a < '1' FROM t  ->  (2.0 + 2.1) (2.0 = 2.1) (2.0 < '1'::integer)
+SELECT b + '1' + a, '1' + a + b FROM t  ->  (2.1 + '1'::bigint + 2.0) ('1'::integer + 2.0 + 2.1)
+SELECT a + b * 2 - 2147483648 FROM t  ->  (2.0 + (2.1 * 2) - 2147483648L)
+SELECT a || s || NULL, s LIKE 'x' FROM t  ->  (2.0 || 2.2 || NULL) (2.2 LIKE 'x')
+SELECT NOT f, NOT NOT f, s NOT LIKE 'x' FROM t  ->  (NOT 2.3) (NOT NOT 2.3) (NOT (2.2 LIKE 'x'))
+SELECT -a, - -b, + +a, + -a FROM t  ->  (- 2.0) (- - 2.1) (+ 2.0) (- 2.0)
+SELECT f AND 'true' AND NOT f, f OR a = 1 FROM t  ->  (AND 2.3 'true'::boolean (NOT 2.3)) (OR 2.3 (2.0 = 1))
+SELECT a IS NULL, a IS DISTINCT FROM b, a IS NOT DISTINCT FROM '1' FROM t  ->  (IS 2.0) (2.0 DISTINCT 2.1) (2.0 NOT DISTINCT '1'::integer)
+SELECT coalesce(a, b), greatest(a, 5) FROM t  ->  (COALESCE bigint 2.0 2.1) (GREATEST integer 2.0 5)
+SELECT CASE WHEN f THEN a ELSE b END FROM t  ->  (CASE bigint WHEN 2.3 THEN 2.0 ELSE 2.1)
+SELECT CASE a WHEN '1' THEN 'x' END FROM t  ->  (CASE text OF 2.0 WHEN '1'::integer THEN 'x')
+SELECT a IN (1, b), a NOT IN (1, 2) FROM t  ->  (IN bigint 2.0 1 2.1) (NOT (IN integer 2.0 1 2))
+SELECT a BETWEEN b AND '9', a NOT BETWEEN 1 AND 2 FROM t  ->  (BETWEEN 2.0 2.1 '9'::integer) (NOT (BETWEEN 2.0 1 2))
+SELECT nullif(a, '1'), mod(b, '2'), repeat(s, '2') FROM t  ->  (NULLIF 2.0 '1'::integer) (FUNCTION 2.1 '2'::bigint) (FUNCTION 2.2 '2'::integer)
+SELECT ROW(a, 'x'), EXISTS (SELECT c FROM n) FROM t  ->  4.0 | (ROW 2.0 'x') (EXISTS #0)
+SELECT a IN (SELECT b FROM t), b IN (SELECT a FROM t) FROM t  ->  4.1 | 4.0 | (IN bigint 2.0 #0) (IN bigint 2.1 #1)
+SELECT x.a + y.a FROM t x JOIN u y ON x.a = y.a AND EXISTS (SELECT y.g)  ->  3.2 | (2.0 + 3.0)
+SELECT 1 FROM (SELECT 1), (SELECT 2)  ->  1 | 2 | 1
+SELECT count((SELECT 1)), count((SELECT a)) FROM t  ->  1 | 2.0 | 1.0 1.1
+SELECT (SELECT 1), sum((SELECT c FROM n)) AS x FROM t GROUP BY x  ->  42803
 SELECT (SELECT sum(t.a) FROM n) FROM t  ->  0A000
+SELECT (SELECT sum((SELECT t.a)) FROM n) FROM t  ->  0A000
+SELECT (SELECT sum(t.a + c) FROM n) FROM t  ->  3.0 | #0
+SELECT (SELECT 1 FROM n WHERE sum(t.a) = 1) FROM t  ->  42803
 SELECT a FROM t GROUP BY a::integer  ->  42803
-SELECT a + b + 1 FROM t GROUP BY a + b  ->  42803
-SELECT '5' IN (b + 3, '05') FROM t  ->  ?
+SELECT (f AND a = 1) AND b = 1 FROM t GROUP BY f AND a = 1, b  ->  (AND (AND 2.3 (2.0 = 1)) (2.1 = 1))
+SELECT - +a FROM t GROUP BY +a  ->  42803
+SELECT (SELECT a + 1 + c FROM n) FROM t GROUP BY a + 1  ->  (2.0 + 1 + 4.0) | #0
+SELECT '5' IN (b + 3, '05') FROM t  ->  (IN bigint '5' (2.1 + 3) '05')
+SELECT '1' IN (a, f) FROM t  ->  42883
+SELECT '5' BETWEEN 1 AND '10'  ->  (BETWEEN '5'::integer 1 '10'::integer)
 SELECT c FROM (n)  ->  2.0
 SELECT count()  ->  42883
+SELECT abs('5')  ->  42883
+SELECT sum('5')  ->  42883
+SELECT NULL::t  ->  0A000
+SELECT t.*, t.*, t.*, t.*, t.*, t.*, t.*, t.*, t.*, t.*, t.*, t.*, t.*, t.*, t.*, t.*, 1 FROM t  ->  54011
 "#;
 
-/// Lines `expression  ->  place and column`, in the blocks of `three_blocks`.
+/// Lines `expression  ->  tree and column`, in the blocks of `three_blocks`.
 const VARIABLES: &str = r#"
 x  ->  0.4 x integer
 y  ->  0.5 y text
@@ -57,7 +91,8 @@ o.x  ->  0.2 x integer
 i.x  ->  0.4 x integer
 i.y  ->  0.5 y text
 i.w  ->  0.0 w integer
-x + 1  ->  ? ?column? integer
+x + 1  ->  (0.4 + 1) ?column? integer
+o.x + $1  ->  (0.2 + 0.6) ?column? bigint
 $1  ->  0.6 ?column? bigint
 $2  ->  42P02
 z  ->  42703
@@ -68,95 +103,70 @@ count(*)  ->  42803
 count(x)  ->  42803
 nosuch(x)  ->  42883
 x::missing  ->  42704
-x::text  ->  0.4:: x text
-(SELECT x FROM n)  ->  ? x integer
-(SELECT c FROM n WHERE c = x)  ->  ? c integer
-(SELECT a FROM t WHERE x = a LIMIT $1)  ->  ? a integer
+x::text  ->  0.4::text x text
+'1'::text::integer  ->  '1'::text::integer text integer
+CASE WHEN true THEN 1 END::text  ->  (CASE integer WHEN true THEN 1)::text case text
+(SELECT x FROM n)  ->  #0 x integer
+(SELECT c FROM n WHERE c = x)  ->  #0 c integer
+(SELECT a FROM t WHERE x = a LIMIT $1)  ->  #0 a integer
+(SELECT x FROM (SELECT 1 AS x) q)  ->  42702
+(SELECT q.x FROM (SELECT 1 AS x) q)  ->  #1 x integer
+(SELECT 1)::text  ->  #0::text text text
+EXISTS (SELECT t.*, t.*, t.*, t.*, t.*, t.*, t.*, t.*, t.*, t.*, t.*, t.*, t.*, t.*, t.*, t.* FROM t)  ->  (EXISTS #0) exists boolean
 "#;
 
-fn push_place(out: &mut Vec<u8>, row: usize, column: usize) -> Result<(), Memory> {
-    if row > 9 || column > 9 {
-        return Err(Memory);
-    }
-    out.push(b'0' + row as u8)?;
-    out.push(b'.')?;
-    out.push(b'0' + column as u8)?;
-    Ok(())
-}
-
-fn push_operand(out: &mut Vec<u8>, tree: &RExpr) -> Result<(), Memory> {
-    if let RExpr::Place { row, column } = tree {
-        push_place(out, *row, *column)?;
-        out.extend_from_slice(b"::")?;
-    } else {
-        out.push(b'?')?;
-    }
-    Ok(())
-}
-
-fn push_tree(out: &mut Vec<u8>, tree: &RExpr) -> Result<(), Memory> {
-    if let RExpr::Place { row, column } = tree {
-        return push_place(out, *row, *column);
-    }
-    if let RExpr::Cast { operand, types: _ } = tree {
-        return push_operand(out, operand.get());
-    }
-    out.push(b'?')?;
-    Ok(())
-}
-
-fn push_items(out: &mut Vec<u8>, query: &RQuery) -> Result<(), Memory> {
-    if !out.is_empty() {
-        out.extend_from_slice(b" |")?;
-    }
-    for item in query.items.as_slice() {
-        if !out.is_empty() {
-            out.push(b' ')?;
+fn items_of(alloc: Global, queries: &[RQuery]) -> Words {
+    let mut out = Words::new(alloc);
+    for (at, query) in queries.iter().enumerate() {
+        if at != 0 {
+            out.push(b" |");
         }
-        push_tree(out, item)?;
+        for item in query.items.as_slice() {
+            out.part();
+            write_tree(&mut out, item);
+        }
     }
-    Ok(())
+    out
 }
 
-fn items_of(alloc: Global, queries: &[RQuery]) -> Result<Vec<u8>, Memory> {
-    let mut out = Vec::new(alloc);
-    for query in queries {
-        push_items(&mut out, query)?;
-    }
-    Ok(out)
-}
-
-fn places(alloc: Global, catalog: &Catalog, query: &Query) -> Result<Vec<u8>, Memory> {
-    match resolve_query(alloc, catalog, &no_scope(alloc), query) {
-        Ok(queries) => items_of(alloc, queries.as_slice()),
-        Err(fail) => state_of(alloc, fail),
-    }
-}
-
-fn expression(alloc: Global, resolved: &ResolvedExpr) -> Result<Vec<u8>, Memory> {
-    let mut out = Vec::new(alloc);
-    push_tree(&mut out, resolved.typed.tree.get())?;
+fn expression(alloc: Global, resolved: &ResolvedExpr) -> Result<Words, Memory> {
+    let mut out = Words::new(alloc);
+    write_tree(&mut out, resolved.typed.tree.get());
     let mut column = Vec::new(alloc);
     let head = Head {
         name: resolved.typed.head,
         ty: resolved.typed.ty,
     };
     push_head(&mut column, &head)?;
-    out.push(b' ')?;
-    out.extend_from_slice(column.as_slice())?;
+    out.part();
+    out.push(column.as_slice());
     Ok(out)
 }
 
-fn variables(alloc: Global, catalog: &Catalog, scope: &Scope, e: &Expr) -> Result<Vec<u8>, Memory> {
-    match resolve_expr(alloc, catalog, scope, e) {
-        Ok(resolved) => expression(alloc, &resolved),
-        Err(fail) => state_of(alloc, fail),
+fn state(alloc: Global, fail: ScopeFail) -> Result<Words, Memory> {
+    let state = state_of(alloc, fail)?;
+    let mut out = Words::new(alloc);
+    out.push(state.as_slice());
+    Ok(out)
+}
+
+fn places(alloc: Global, catalog: &Catalog, query: &Query) -> Result<Words, Memory> {
+    match resolve_query(alloc, catalog, &no_scope(alloc), query) {
+        Ok(queries) => Ok(items_of(alloc, queries.as_slice())),
+        Err(fail) => state(alloc, fail),
     }
 }
 
-fn is(words: Result<Vec<u8>, Memory>, expected: &str) -> bool {
+fn variables(alloc: Global, catalog: &Catalog, scope: &Scope, e: &Expr) -> Result<Words, Memory> {
+    match resolve_expr(alloc, catalog, scope, e) {
+        Ok(resolved) => expression(alloc, &resolved),
+        Err(fail) => state(alloc, fail),
+    }
+}
+
+fn is(words: Result<Words, Memory>, expected: &str) -> bool {
     match words {
-        Ok(words) => words.as_slice() == expected.as_bytes(),
+        Ok(words) => words.text() == expected.as_bytes(),
         Err(_) => false,
     }
 }

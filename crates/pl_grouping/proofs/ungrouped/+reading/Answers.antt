@@ -6,12 +6,20 @@ use Rattle.pl_grouping.proofs.ReadsEquations.{reads_combined, reads_row, reads_c
 use Rattle.pl_resolved.specs.declared.expression.RExpr.{the_lemmas}
 use Rattle.pl_grouping.proofs.ungrouped.+reading.Goals as goal
 
-pub tree_inside-returns-in-Cast : goal.tree_inside-returns-in-Cast
-tree_inside-returns-in-Cast t c =
+pub tree_inside-returns-then-not-is_begun_cast : goal.tree_inside-returns-then-not-is_begun_cast
+tree_inside-returns-then-not-is_begun_cast t c =
     rw (c.in-Cast.is, reads_cast) (first_of (search (rules, the_lemmas), grind (arith, the_lemmas, common_steps)))
 
-pub tree_inside-returns-in-Unary : goal.tree_inside-returns-in-Unary
-tree_inside-returns-in-Unary t c =
+pub tree_inside-returns-else-not-is_begun_cast : goal.tree_inside-returns-else-not-is_begun_cast
+tree_inside-returns-else-not-is_begun_cast t c =
+    rw (c.in-Cast.is, reads_cast) (first_of (search (rules, the_lemmas), grind (arith, the_lemmas, common_steps)))
+
+pub tree_inside-returns-then-not-is_begun_unary : goal.tree_inside-returns-then-not-is_begun_unary
+tree_inside-returns-then-not-is_begun_unary t c =
+    rw (c.in-Unary.is, reads_unary) (first_of (search (rules, the_lemmas), grind (arith, the_lemmas, common_steps)))
+
+pub tree_inside-returns-else-not-is_begun_unary : goal.tree_inside-returns-else-not-is_begun_unary
+tree_inside-returns-else-not-is_begun_unary t c =
     rw (c.in-Unary.is, reads_unary) (first_of (search (rules, the_lemmas), grind (arith, the_lemmas, common_steps)))
 
 pub tree_inside-returns-in-Binary : goal.tree_inside-returns-in-Binary

@@ -1,5 +1,5 @@
 use Rattle.std.proofs.Common.{◌≡◌, drop, map}
-use Rattle.pl_grouping.specs.Columns.{any_reads, arm_reads, asking, one_does, reads_as, step_reads}
+use Rattle.pl_grouping.specs.Columns.{any_reads, arm_reads, asking, one_behind_does, one_does, reads_as, step_reads}
 use Rattle.pl_grouping.proofs.ungrouped.+reading.Given as goal
 
 abbrev pub invariant-any_reads-loop-tree : goal.invariant-any_reads-loop-tree
@@ -10,8 +10,8 @@ invariant-any_reads-loop-tree l =
 
 abbrev pub invariant-any_step_reads-loop-step : goal.invariant-any_step_reads-loop-step
 invariant-any_step_reads-loop-step l =
-    one_does (map (step_reads (asking l.of)) l.steps) l.steps
-    ≡ one_does (map (step_reads (asking l.of)) (drop l.step-index l.steps))
+    one_behind_does l.begun (map (step_reads (asking l.of)) l.steps) l.steps
+    ≡ one_behind_does l.left (map (step_reads (asking l.of)) (drop l.step-index l.steps))
     (drop l.step-index l.steps)
 
 abbrev pub invariant-any_arm_reads-loop-arm : goal.invariant-any_arm_reads-loop-arm
