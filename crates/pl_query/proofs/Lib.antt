@@ -1,0 +1,11 @@
+mod Alone
+mod Front
+mod Drawn
+mod Zipped
+mod Behind
+mod Loops
+mod Before
+mod SourceEquations
+mod Shortened
+mod Chosen
+mod Whole

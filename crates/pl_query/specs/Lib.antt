@@ -1,0 +1,5 @@
+pub mod Sources
+pub mod Rows
+pub mod Query
+pub mod Draws
+pub mod Serves
