@@ -44,6 +44,11 @@ found at None rest = Err at
 found at (Some x) (Ok frames) = Ok ((at, x) ∷ frames)
 found at (Some x) (Err place) = Err place
 
+-- what open frames of these payloads read as, the first of which has its gate at this place
+abbrev pub read_all : {T : Type 0} → (List ℕ → Option T) → ℕ → List (List ℕ) → Result (List (ℕ × T)) ℕ
+read_all read at [] = Ok []
+read_all read at (p ∷ list) = found at (read p) (read_all read (at + 9 + length p) list)
+
 -- The frames from the gate at a place on, while the gate is open, each as the place of its gate and what its payload reads as. Or the
 -- place of the gate of the first frame that doesn't lie in the file together with its next gate, or whose payload reads as nothing.
 -- (The first number only bounds the count of frames: there are no more of them than bytes.)

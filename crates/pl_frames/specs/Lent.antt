@@ -5,7 +5,7 @@ use Rattle.std.proofs.lemmas.Nat.{from_be_bytes-to_be_bytes_8}
 use Rattle.std.proofs.lemmas.Bool.Decides.{nat_tests}
 use Rattle.std.specs.List.{flat_map}
 use Rattle.std.specs.Int.{to_be_bytes, from_be_bytes, w64}
-use Rattle.pl_frames.specs.Format.{Frames, frame_bytes, found, frames_from, is_open}
+use Rattle.pl_frames.specs.Format.{Frames, frame_bytes, found, read_all, frames_from, is_open}
 use Rattle.pl_frames.specs.Frame.{IsBroken}
 use Rattle.pl_frames.specs.Header.{Shut}
 
@@ -65,11 +65,6 @@ module _ {T : Type 0} (read : List ℕ → Option T) (more : ℕ) (file : List �
 
 bytes_of : (p : List ℕ) → length (frame_bytes p) ≡ 9 + length p
 bytes_of p = omega arith
-
--- what open frames of these payloads read as, the first of which has its gate at this place
-abbrev pub read_all : {T : Type 0} → (List ℕ → Option T) → ℕ → List (List ℕ) → Result (List (ℕ × T)) ℕ
-read_all read at [] = Ok []
-read_all read at (p ∷ list) = found at (read p) (read_all read (at + 9 + length p) list)
 
 all_from : {T : Type 0} (read : List ℕ → Option T) (list : List (List ℕ)) (more : ℕ) (file pre : List ℕ) (gate : ℕ) (rest : List ℕ) (at : ℕ) → file ≡ pre ++ (flat_map frame_bytes list ++ gate ∷ rest) → length pre ≡ at → gate ≢ 1
     → length (flat_map frame_bytes list) < 2 ^ 64 → length (flat_map frame_bytes list) < more → frames_from read more file at ≡ read_all read at list

@@ -4,7 +4,7 @@
 
 ghost use Rattle.std.specs.Prelude.{◌≡◌, ◌++◌, ◌∷◌, [], take, drop, IfOk, IfErr, OnOk};
 ghost use Rattle.pl_base.specs.Image.{file};
-ghost use Rattle.pl_disk.specs.Disk.{After, Looks, Writes};
+ghost use Rattle.pl_disk.specs.Disk.{After, Looks, Only, Writes};
 ghost use Rattle.pl_frames.specs.Cause.{HasCause, Never};
 ghost use Rattle.pl_frames.specs.Format.{header_bytes};
 ghost use Rattle.pl_frames.specs.Header.{Shut, Laid, Leaves, MayClose, MayLay, MayOpen, IsInspected, LacksHeader, IsShutRead};
@@ -128,6 +128,8 @@ pub fn open_area<D: Disk>(disk: &mut D, area: Area) -> Result<(), FrameFail>
         (After (MayOpen area) (D.view disk.old).may_leave) }
     ensures opened { (D.view disk.old).told → OnOk result (Leaves area
         (λ f. f ≡ 1 ∷ drop 1 (file area (D.view disk.old).seen)) (D.view disk.new)) }
+    ensures durable { (D.view disk.old).told → OnOk result (
+        Only (D.view disk.new).seen (D.view disk.new).may_leave) }
     ensures cause { IfErr result (HasCause Never (D.view disk.old) (D.view disk.new)) }
 {
     write_synced(disk, area, 0, &[OPEN])?;

@@ -1,5 +1,6 @@
 pub mod Along
 pub mod Appends
 pub mod Causes
+pub mod Checkpoints
 pub mod Opens
 pub mod Starts

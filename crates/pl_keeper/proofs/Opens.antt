@@ -1,20 +1,22 @@
 -- The batches of two files, by their form.
-use Rattle.std.proofs.Common.{◌≡◌, ◌<◌, ◌≤◌, ◌==◌, ℕ, List, [], ◌∷◌, ◌++◌, length, take, drop, Bool, true, false, cond, nat_eq, nat_lt, Option, Some, None, Result, Ok, Err, refl, sym, ◌∙◌, ap, arith, length-append, length-drop}
+use Rattle.std.proofs.Common.{◌≡◌, ◌<◌, ◌≤◌, ◌^◌, ◌==◌, ℕ, List, [], ◌∷◌, ◌++◌, length, take, drop, Bool, true, false, cond, nat_eq, nat_lt, Option, Some, None, Result, Ok, Err, IfOk, IfSome, refl, sym, ◌∙◌, ap, subst, arith, length-append, length-drop}
 use Rattle.std.specs.Cmp.Lexicographic.{pointwise}
 use Rattle.std.specs.Int.{to_be_bytes, from_be_bytes, w64}
-use Rattle.std.proofs.lemmas.List.{take-append-le, drop-append-le}
+use Rattle.std.proofs.lemmas.List.{append-nil, take-append-le, drop-append-le, take_at}
+use Rattle.std.proofs.lemmas.Nat.{from_be_bytes-to_be_bytes_8}
 use Rattle.std.proofs.lemmas.Bool.Decides.{nat_tests}
 use Rattle.pl_base.specs.Image.{Image, file, other}
 use Rattle.pl_base.specs.declared.area.Area.{Area}
 use Rattle.pl_base.specs.declared.area.Area.TheVariants.{A, B}
 use Rattle.pl_codec.specs.Reading.{operations_of}
-use Rattle.pl_frames.specs.Format.{Frames, frames_from, is_open, has_header, magic}
-use Rattle.pl_frames.specs.Header.{Laid}
+use Rattle.pl_frames.specs.Format.{Frames, frames_from, is_open, has_header, header_bytes, magic}
+use Rattle.pl_frames.specs.Header.{Laid, IsInspected}
+use Rattle.pl_frames.specs.declared.fail.FrameFail.{FrameFail}
 use Rattle.pl_frames.specs.Lent.{frames_read}
-use Rattle.pl_keeper.specs.Batches.{Stored, Log, Damage, generation_in, by_headers, counting, logged, log_in, batches}
-use Rattle.pl_keeper.specs.Reading.{AreRead}
-use Rattle.pl_keeper.specs.Store.{Has, all_stored}
-use Rattle.pl_keeper.specs.declared.opening.Found.{Found}
+use Rattle.pl_keeper.specs.Batches.{Stored, Log, Damage, generation_in, greater, by_headers, counting, logged, log_in, batches}
+use Rattle.pl_keeper.specs.Reading.{IsCounting, IsGreater, generation_of}
+use Rattle.pl_keeper.specs.Store.{IsPlaced}
+use Rattle.pl_keeper.specs.declared.head.Head.{Head}
 
 -- ---- one file
 
@@ -65,10 +67,6 @@ none_open c is = by_both (generation_in c.a) (generation_in c.b) refl refl is
     by_both (Ok None) (Ok (Some b)) is_a is_b h = absurd (cc)
     by_both (Ok (Some a)) (Ok (Some b)) is_a is_b h = absurd (by_order a b (a == b) h)
 
-pub misheaded : (c : Image) (damage : Damage) → counting c ≡ Err damage → batches c ≡ Err damage
-unfolding batches
-misheaded c damage is = ap (λ (r : Result (Option Area) Damage). log_in c r) is
-
 pub framed : (c : Image) (area : Area) (r : Result (List Stored) ℕ) → counting c ≡ Ok (Some area) → frames_from operations_of (length (file area c)) (file area c) 17 ≡ r → batches c ≡ logged area r
 unfolding batches
 framed c area r counts is = ap (λ (r : Result (Option Area) Damage). log_in c r) counts ∙ ap (λ (r : Result (List Stored) ℕ). logged area r) is
@@ -114,40 +112,44 @@ counting_headed c area is = by_both (generation_in c.a) (generation_in c.b) refl
         by_area A = (a, is_a)
         by_area B = (b, is_b)
 
--- an area whose frames were read
-pub has_read : (c : Image) (area : Area) (read : Found) → counting c ≡ Ok (Some area) → read.area ≡ area → AreRead (file area c) read → Has (all_stored read.batches.items) (record { area = area; end = read.end }) c
-has_read c area read counts same is = record {
-  counts = counts;
-  batches = framed c area (Ok (all_stored read.batches.items)) counts is.read;
-  bytes = take 17 (file area c);
-  payloads = is.payloads;
-  frames = is.frames;
-}
+-- one area has this generation and the other is closed: the one counts
+pub alone : (area : Area) (c : Image) (generation : ℕ) → generation_in (file area c) ≡ Ok (Some generation) → is_open (file (other area) c) ≡ false → counting c ≡ Ok (Some area)
+alone A c generation has shut = λ i. by_headers (has i) (closed_area c.b shut i)
+alone B c generation has shut = λ i. by_headers (closed_area c.a shut i) (has i)
 
 -- ---- a new area
 
 long_open : (x : ℕ) (rest : List ℕ) → 0 < length rest → x ≡ 1 → is_open (x ∷ rest) ≡ true
 long_open x rest long one = grind (arith, nat_tests)
 
-headed : (generation rest : List ℕ) → length generation ≡ 8 → 0 < length rest → has_header ((1 ∷ (magic ++ generation)) ++ rest) ≡ true
+headed : (generation rest : List ℕ) → length generation ≡ 8 → 0 < length rest → has_header (1 ∷ ((magic ++ generation) ++ rest)) ≡ true
 headed generation rest eight long = let n = length-append generation rest in grind (arith, nat_tests, n)
 
-pub has_new : (d c : Image) → Laid 0 d.a → c.a ≡ 1 ∷ drop 1 d.a → is_open c.b ≡ false → Has [] (record { area = A; end = 17 }) c
-has_new d c laid is closed_b =
-    let generation = to_be_bytes w64 0 in
-    let split : c.a ≡ (1 ∷ (magic ++ generation)) ++ 0 ∷ laid.rest = is ∙ ap (λ (l : List ℕ). 1 ∷ drop 1 l) laid.split in
-    let opened : is_open c.a ≡ true = ap is_open split ∙ long_open 1 (magic ++ generation ++ 0 ∷ laid.rest) (omega arith) refl in
-    let has : has_header c.a ≡ true = ap has_header split ∙ headed generation (0 ∷ laid.rest) refl (omega arith) in
-    let frames : Frames c.a (1 ∷ (magic ++ generation)) [] 17 = record { gate = 0; rest = laid.rest; split = split; shut = omega arith; header = refl; place = refl } in
-    let counts : counting c ≡ Ok (Some A) =
-    (λ i. by_headers (headed_area c.a (from_be_bytes w64 (take 8 (drop 9 c.a))) opened has refl i) (closed_area c.b closed_b i)) in
-    record {
-      counts = counts;
-      batches = framed c A (Ok []) counts (frames_read operations_of c.a (1 ∷ (magic ++ generation)) [] 17 frames (omega arith));
-      bytes = 1 ∷ (magic ++ generation);
-      payloads = [];
-      frames = frames;
-    }
+pub laid_open : (generation : ℕ) (d c : List ℕ) → Laid generation d → c ≡ 1 ∷ drop 1 d → Laid generation c
+laid_open generation d c laid is = record { gate = 1; rest = laid.rest; split = is ∙ ap (λ (l : List ℕ). 1 ∷ drop 1 l) laid.split }
+
+-- an open area with a header of this generation
+pub header_generation : (generation : ℕ) (c rest : List ℕ) → generation < 2 ^ 64 → 0 < length rest → c ≡ 1 ∷ (header_bytes generation ++ rest) → generation_in c ≡ Ok (Some generation)
+header_generation generation c rest fits some split =
+    let number = to_be_bytes w64 generation in
+    let opened : is_open c ≡ true = ap is_open split ∙ long_open 1 ((magic ++ number) ++ rest) (let n = length-append (magic ++ number) rest in omega (arith, some, n)) refl in
+    let has : has_header c ≡ true = ap has_header split ∙ headed number rest refl some in
+    let behind : drop 8 ((magic ++ number) ++ rest) ≡ number ++ rest = refl in
+    let read : from_be_bytes w64 (take 8 (drop 9 c)) ≡ generation =
+    ap (λ (l : List ℕ). from_be_bytes w64 (take 8 (drop 9 l))) split ∙ ap (λ (l : List ℕ). from_be_bytes w64 (take 8 l)) behind
+    ∙ ap (λ (l : List ℕ). from_be_bytes w64 l) (take_at number rest 8 refl) ∙ from_be_bytes-to_be_bytes_8 generation fits in
+    headed_area c generation opened has (sym read)
+
+pub laid_generation : (generation : ℕ) (d c : List ℕ) → generation < 2 ^ 64 → Laid generation d → c ≡ 1 ∷ drop 1 d → generation_in c ≡ Ok (Some generation)
+laid_generation generation d c fits laid is = header_generation generation c (0 ∷ laid.rest) fits (omega arith) (is ∙ ap (λ (l : List ℕ). 1 ∷ drop 1 l) laid.split)
+
+-- no frame stands in an area that was laid
+pub laid_frames : (generation : ℕ) (c : List ℕ) (laid : Laid generation c) → Frames c (laid.gate ∷ header_bytes generation) [] 17
+laid_frames generation c laid = record { gate = 0; rest = laid.rest; split = laid.split ∙ ap (λ (l : List ℕ). l ++ 0 ∷ laid.rest) (sym (append-nil (laid.gate ∷ header_bytes generation))); shut = omega arith; header = refl; place = refl }
+
+pub no_batch : (generation : ℕ) (area : Area) (c : Image) → Laid generation (file area c) → counting c ≡ Ok (Some area) → batches c ≡ Ok (record { area = area; list = [] })
+no_batch generation area c laid counts =
+    framed c area (Ok []) counts (frames_read operations_of (file area c) (laid.gate ∷ header_bytes generation) [] 17 (laid_frames generation (file area c) laid) (omega arith))
 
 -- ---- files of the same header
 
@@ -175,3 +177,31 @@ same_generation d c (x ∷ head) rest rest' long is_d is_c some some' =
 pub same_counting : (area : Area) (d c : Image) → generation_in (file area c) ≡ generation_in (file area d) → file (other area) c ≡ file (other area) d → counting c ≡ counting d
 same_counting A d c same rest = λ i. by_headers (same i) (generation_in (rest i))
 same_counting B d c same rest = λ i. by_headers (generation_in (rest i)) (same i)
+
+-- ---- the headers as they are read
+
+pub inspected : (f : List ℕ) (o : Option ℕ) → IsInspected f o → generation_in f ≡ Ok o
+inspected f None is = closed_area f is
+inspected f (Some generation) is = headed_area f generation is.0 is.1 is.2
+
+counted_by : (c : Image) (area : Area) (a b : Option ℕ) (generation : ℕ) → generation_in c.a ≡ Ok a → generation_in c.b ≡ Ok b → generation_of area a b ≡ Some generation → generation_in (file area c) ≡ Ok (Some generation)
+counted_by c A a b generation is_a is_b is = is_a ∙ ap (λ (o : Option ℕ). let r : Result (Option ℕ) ℕ = Ok o in r) is
+counted_by c B a b generation is_a is_b is = is_b ∙ ap (λ (o : Option ℕ). let r : Result (Option ℕ) ℕ = Ok o in r) is
+
+judged : (c : Image) (a b : Option ℕ) → generation_in c.a ≡ Ok a → generation_in c.b ≡ Ok b → counting c ≡ greater a b
+judged c a b is_a is_b = λ i. by_headers (is_a i) (is_b i)
+
+-- the area that counts, by what was read of both headers
+pub counted : (c : Image) (a b : Option ℕ) (r : Result (Option Head) FrameFail) → generation_in c.a ≡ Ok a → generation_in c.b ≡ Ok b → IsGreater a b r → IfOk r (IsCounting c)
+counted c a b (Ok None) is_a is_b is = judged c a b is_a is_b ∙ is
+counted c a b (Ok (Some head)) is_a is_b is = record {
+  counts = judged c a b is_a is_b ∙ is.0;
+  generation = counted_by c head.area a b head.generation is_a is_b is.1;
+  first = is.2;
+}
+counted c a b (Err e) is_a is_b is = tt
+
+pub first_placed : (a b : Option ℕ) (r : Result (Option Head) FrameFail) → IsGreater a b r → IfOk r (λ found. IfSome found IsPlaced)
+first_placed a b (Ok None) is = tt
+first_placed a b (Ok (Some head)) is = subst IsPlaced (sym is.2) (omega arith, omega arith)
+first_placed a b (Err e) is = tt

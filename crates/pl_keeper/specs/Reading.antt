@@ -1,49 +1,68 @@
--- What the calls that read a store find.
-use Rattle.std.specs.Prelude.{◌≡◌, ℕ, List, length, take, None, Option, Result, Ok, Err}
+-- What the calls that open a store and read it find.
+use Rattle.std.specs.Prelude.{◌≡◌, ◌<◌, ◌++◌, ◌^◌, ℕ, List, [], ◌∷◌, Some, None, Option, Result, Ok, Err}
 use Rattle.pl_base.specs.Image.{Image, file}
 use Rattle.pl_base.specs.declared.area.Area.{Area}
-use Rattle.pl_codec.specs.Reading.{operations_of}
+use Rattle.pl_base.specs.declared.area.Area.TheVariants.{A, B}
 use Rattle.pl_disk.specs.Disk.{View}
-use Rattle.pl_frames.specs.Format.{Frames, frames_from}
 use Rattle.pl_frames.specs.Header.{Laid}
 use Rattle.pl_frames.specs.declared.fail.FrameFail.{FrameFail}
 use Rattle.pl_frames.specs.declared.fail.FrameFail.TheVariants.{Fault, Damaged, Memory}
-use Rattle.pl_keeper.specs.Batches.{Damage, batches, counting}
-use Rattle.pl_keeper.specs.Store.{IsStore, all_stored, log_of}
-use Rattle.pl_keeper.specs.declared.opening.Found.{Found}
+use Rattle.pl_keeper.specs.Batches.{Stored, batches, counting, generation_in, greater}
+use Rattle.pl_keeper.specs.Store.{IsReading, IsStore, first_head, stored}
+use Rattle.pl_keeper.specs.declared.head.Head.{Head}
+use Rattle.pl_keeper.specs.declared.reader.Step.{Step}
+use Rattle.pl_keeper.specs.declared.reader.Step.TheVariants.{Read, End}
 
--- these are all the frames of the file, and they end at that place
-pub record AreRead (file : List ℕ) (found : Found) : Type 0 where
-  pub payloads : List (List ℕ)
-  pub frames : Frames file (take 17 file) payloads found.end
-  pub read : frames_from operations_of (length file) file 17 ≡ Ok (all_stored found.batches.items)
+-- ---- the headers
 
--- they are those of this area
-abbrev pub AreReadIn : View → Area → Found → Type 0
-AreReadIn v area found = (found.area ≡ area) × AreRead (file area v.seen) found
+-- the generation of an area, of those of the two
+abbrev pub generation_of : Area → (a b : Option ℕ) → Option ℕ
+generation_of A a b = a
+generation_of B a b = b
 
--- the damage is the first frame of the area that is malformed
-abbrev pub BreaksIn : Area → View → Area → ℕ → Type 0
-BreaksIn area v where_ at =
-    v.told → (where_ ≡ area) × (frames_from operations_of (length (file area v.seen)) (file area v.seen) 17 ≡ Err at)
+-- which of two areas counts, before its first frame, or the damage
+abbrev pub IsGreater : (a b : Option ℕ) → Result (Option Head) FrameFail → Type 0
+IsGreater a b (Ok None) = greater a b ≡ Ok None
+IsGreater a b (Ok (Some head)) = (greater a b ≡ Ok (Some head.area))
+    × (generation_of head.area a b ≡ Some head.generation) × (head ≡ first_head head.area head.generation)
+IsGreater a b (Err (Damaged area at)) = greater a b ≡ Err (record { area = area; at = at })
+IsGreater a b (Err Fault) = ⊥
+IsGreater a b (Err Memory) = ⊥
 
--- which of two areas counts, or the damage
-abbrev pub IsGreater : Result (Option Area) Damage → Result (Option Area) FrameFail → Type 0
-IsGreater found (Ok area) = found ≡ Ok area
-IsGreater found (Err (Damaged area at)) = found ≡ Err (record { area = area; at = at })
-IsGreater found (Err Fault) = ⊥
-IsGreater found (Err Memory) = ⊥
+-- it is the head of the area that counts, before its first frame
+pub record IsFirst (head : Head) (image : Image) : Type 0 where
+  pub counts : counting image ≡ Ok (Some head.area)
+  pub generation : generation_in (file head.area image) ≡ Ok (Some head.generation)
+  pub first : head ≡ first_head head.area head.generation
+
+abbrev pub IsCounting : Image → Option Head → Type 0
+IsCounting image None = counting image ≡ Ok None
+IsCounting image (Some head) = IsFirst head image
 
 -- the damage is that of the headers
 abbrev pub IsMisheaded : View → Area → ℕ → Type 0
 IsMisheaded v area at = v.told → counting v.seen ≡ Err (record { area = area; at = at })
 
--- the files that are left while a settled store is opened: they have the batches that are read, and the same area B
-abbrev pub Opening : View → Image → Type 0
-Opening v c = (batches c ≡ batches v.seen) × (c.b ≡ v.seen.b)
+-- ---- a store that is opened
 
--- it is opened
-pub record Opened (old new : View) (read : Found) : Type 0 where
-  pub found : batches old.seen ≡ Ok (log_of read.area read.batches.items)
-  pub store : IsStore new.may_leave (record { area = read.area; end = read.end }) (all_stored read.batches.items)
+-- the files that are left while a settled store is opened: they have the batches that are read, and the same area B
+abbrev pub KeepsBatches : View → Image → Type 0
+KeepsBatches v c = (batches c ≡ batches v.seen) × (c.b ≡ v.seen.b)
+
+-- it is opened: nothing is unsettled, and none of the batches was read yet
+pub record Opened (old new : View) (head : Head) : Type 0 where
+  pub same : batches new.seen ≡ batches old.seen
+  pub reading : IsReading new head []
   pub new_area : counting old.seen ≡ Ok None → (c : Image) → new.may_leave c → Laid 0 c.a
+
+-- ---- a step of the reader
+
+-- the next batch stands behind those that were read; at the end they are all
+abbrev pub IsStep : View → (reader : Head) → List Stored → Step → Type 0
+IsStep v reader list (Read batch rest) = (batch.at ≡ reader.end) × IsReading v rest (list ++ stored batch ∷ [])
+IsStep v reader list (End keeper) = IsStore v keeper list
+
+-- a batch brings the reader further
+abbrev pub ReadsOn : (reader : Head) → Step → Type 0
+ReadsOn reader (Read batch rest) = (reader.end < rest.end) × (rest.end < 2 ^ 63)
+ReadsOn reader (End keeper) = Unit {0}

@@ -1,32 +1,73 @@
 -- What a store is at a moment, and what a call of its keeper may do to it.
-use Rattle.std.specs.Prelude.{◌≡◌, ◌⊎◌, ℕ, List, [], ◌∷◌, ◌++◌, map, None, Some, Ok, Err}
+use Rattle.std.specs.Prelude.{◌≡◌, ◌⊎◌, ◌&&◌, ◌==◌, ◌<◌, ◌≤◌, ℕ, ◌+◌, ◌^◌, List, [], ◌∷◌, ◌++◌, length, take, drop, nat_lt, None, Some, Ok, Err, if◌then◌else◌}
+use Rattle.std.specs.List.{flat_map}
 use Rattle.pl_base.specs.Image.{Image, file, other}
 use Rattle.pl_base.specs.declared.area.Area.{Area}
 use Rattle.pl_base.specs.declared.area.Area.TheVariants.{B}
 use Rattle.pl_base.specs.declared.operation.Op.{Op}
 use Rattle.pl_codec.specs.Reading.{operations_of}
-use Rattle.pl_disk.specs.Disk.{View}
-use Rattle.pl_frames.specs.Format.{Frames}
+use Rattle.pl_disk.specs.Disk.{View, Only}
+use Rattle.pl_frames.specs.Format.{Frames, frame_bytes, read_all}
 use Rattle.pl_frames.specs.Header.{Laid}
-use Rattle.pl_keeper.specs.Batches.{Stored, Log, batches, counting}
+use Rattle.pl_keeper.specs.Batches.{Stored, batches, counting, generation_in}
 use Rattle.pl_keeper.specs.declared.batch.Batch.{Batch}
+use Rattle.pl_keeper.specs.declared.head.Head.{Head}
 
--- what a keeper knows: the area that counts, and the place of its first closed gate, as a byte of its file
-pub record Head : Type 0 where
-  pub area : Area
-  pub end : ℕ
+-- Where the first frame of an area ends, just after its next gate. In a new store, whose generation is 0, and before there is a
+-- frame, it is where the header ends.
+abbrev pub base_of : (generation : ℕ) → (payloads : List (List ℕ)) → ℕ
+base_of generation [] = 18
+base_of generation (first ∷ payloads) = if generation == 0 then 18 else 27 + length first
 
--- the files have these batches in the area that counts, whose frames end at the keeper's place
+-- the head of an area of no frame, and the one behind one more frame
+abbrev pub first_head : Area → (generation : ℕ) → Head
+first_head area generation = record { area = area; generation = generation; end = 17; base = 18 }
+
+abbrev pub behind : Head → (end : ℕ) → Head
+behind head end = record {
+  area = head.area;
+  generation = head.generation;
+  end = end;
+  base = if head.end == 17 && nat_lt 0 head.generation then end + 1 else head.base;
+}
+
+-- its places are those of a file
+abbrev pub IsPlaced : Head → Type 0
+IsPlaced head = (head.end < 2 ^ 63) × (head.base ≤ 2 ^ 63)
+
+-- the files have these batches in the area that counts, whose frames end at the head's place
 pub record Has (list : List Stored) (head : Head) (image : Image) : Type 0 where
   pub counts : counting image ≡ Ok (Some head.area)
+  pub generation : generation_in (file head.area image) ≡ Ok (Some head.generation)
   pub batches : batches image ≡ Ok (record { area = head.area; list = list })
   pub bytes : List ℕ
   pub payloads : List (List ℕ)
   pub frames : Frames (file head.area image) bytes payloads head.end
+  pub base : head.base ≡ base_of head.generation payloads
 
--- every crash leaves a store of these batches, whose frames end at the keeper's place
-abbrev pub IsStore : (Image → Type 0) → Head → List Stored → Type 0
-IsStore may_leave keeper list = (c : Image) → may_leave c → Has list keeper c
+-- nothing is unsettled, and the files are a store of these batches, whose frames end at the keeper's place
+pub record IsStore (v : View) (keeper : Head) (list : List Stored) : Type 0 where
+  pub settled : Only v.seen v.may_leave
+  pub has : Has list keeper v.seen
+
+-- the files have these batches in front of the gate at the head's place
+pub record ReadTo (list : List Stored) (head : Head) (image : Image) : Type 0 where
+  pub counts : counting image ≡ Ok (Some head.area)
+  pub generation : generation_in (file head.area image) ≡ Ok (Some head.generation)
+  pub payloads : List (List ℕ)
+  pub split : file head.area image ≡ take 17 (file head.area image) ++ flat_map frame_bytes payloads ++ drop head.end (file head.area image)
+  pub place : head.end ≡ 17 + length (flat_map frame_bytes payloads)
+  pub gate : head.end < length (file head.area image)
+  pub read : read_all operations_of 17 payloads ≡ Ok list
+  pub base : head.base ≡ base_of head.generation payloads
+
+-- nothing is unsettled, and these batches were read of the files, up to the reader's gate
+pub record IsReading (v : View) (reader : Head) (list : List Stored) : Type 0 where
+  pub settled : Only v.seen v.may_leave
+  pub read : ReadTo list reader v.seen
+
+abbrev pub IsSomeReading : View → Head → Type 0
+IsSomeReading v reader = (list : List Stored) × IsReading v reader list
 
 -- the file of this area is as it is in an image from before
 abbrev pub KeepsFile : Area → View → Image → Type 0
@@ -35,12 +76,6 @@ KeepsFile area v c = (d : Image) × v.may_leave d × (file area c ≡ file area 
 -- a batch that was read, as the definitions have it
 abbrev pub stored : Batch → Stored
 stored batch = (batch.at, batch.ops.items)
-
-abbrev pub all_stored : List Batch → List Stored
-all_stored batches = map stored batches
-
-abbrev pub log_of : Area → List Batch → Log
-log_of area batches = record { area = area; list = all_stored batches }
 
 -- ---- what a recover does
 
@@ -53,11 +88,11 @@ pub record Recovering (v : View) (c : Image) : Type 0 where
 abbrev pub HasSame : View → List ℕ → Image → Type 0
 HasSame v p c = (p ≡ v.printed) × (batches c ≡ batches v.seen)
 
--- it is done: these are the batches that are read, and every crash leaves a store of them. Its first sync succeeded, and where both
--- areas were closed area A has the header of a new store.
-pub record Recovered (old new : View) (keeper : Head) (list : List Stored) : Type 0 where
-  pub found : batches old.seen ≡ Ok (record { area = keeper.area; list = list })
-  pub store : IsStore new.may_leave keeper list
+-- It is done: the files have the batches from before, of which none was read yet. Its first sync succeeded, and where both areas were
+-- closed area A has the header of a new store.
+pub record Recovered (old new : View) (reader : Head) : Type 0 where
+  pub same : batches new.seen ≡ batches old.seen
+  pub reading : IsReading new reader []
   pub synced : (t : ℕ) × (later : List ℕ) × (new.synced ≡ old.synced ++ t ∷ later)
   pub new_area : counting old.seen ≡ Ok None → (c : Image) → new.may_leave c → Laid 0 c.a
 
@@ -73,11 +108,11 @@ DamagedAt v area at = v.told → batches v.seen ≡ Err (record { area = area; a
 
 -- a store of some batches, whose frames end at the keeper's place
 abbrev pub IsSomeStore : View → Head → Type 0
-IsSomeStore v keeper = (list : List Stored) × IsStore v.may_leave keeper list
+IsSomeStore v keeper = (list : List Stored) × IsStore v keeper list
 
 -- the files that are left while it runs: they have the batches from before, or those and the new one
 pub record Committing (v : View) (keeper : Head) (ops : List Op) (c : Image) : Type 0 where
-  pub batches : (list : List Stored) → IsStore v.may_leave keeper list
+  pub batches : (list : List Stored) → IsStore v keeper list
       → (batches c ≡ Ok (record { area = keeper.area; list = list }))
       ⊎ (batches c ≡ Ok (record { area = keeper.area; list = list ++ (keeper.end, ops) ∷ [] }))
   pub rest : KeepsFile (other keeper.area) v c
@@ -88,8 +123,8 @@ CommittingPayload v keeper payload c = (ops : List Op) → operations_of payload
 
 -- it is done: every crash leaves a store of the batches from before and the new one
 abbrev pub Committed : View → View → Head → Head → List Op → Type 0
-Committed old new keeper keeper' ops = (list : List Stored) → IsStore old.may_leave keeper list
-    → IsStore new.may_leave keeper' (list ++ (keeper.end, ops) ∷ [])
+Committed old new keeper keeper' ops = (list : List Stored) → IsStore old keeper list
+    → IsStore new keeper' (list ++ (keeper.end, ops) ∷ [])
 
 abbrev pub CommittedPayload : View → View → Head → Head → List ℕ → Type 0
 CommittedPayload old new keeper keeper' payload = (ops : List Op) → operations_of payload ≡ Some ops → Committed old new keeper keeper' ops

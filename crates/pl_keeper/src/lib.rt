@@ -3,12 +3,15 @@
 //! call or to the one after it.
 #![tactic(auto)]
 
+mod areas;
 mod batch;
+mod head;
 mod keeper;
-mod opening;
+mod reader;
 #[cfg(test)]
 mod tests;
 
 pub use batch::Batch;
 pub use keeper::Keeper;
 pub use pl_frames::FrameFail;
+pub use reader::{Reader, Step};

@@ -1,7 +1,7 @@
 ghost use Rattle.std.specs.Prelude.{◌<◌, ◌≤◌, ◌-◌, ◌^◌};
 ghost use Rattle.pl_disk.specs.Disk.{untold};
 
-use crate::Keeper;
+use crate::{Keeper, Step};
 use pl_base::{Area, List, Name, Op, Txt, Value};
 use pl_codec::encode;
 use pl_disk::{Disk, Failed};
@@ -92,8 +92,11 @@ const STORE: &[u8] = b"\x01PLPGST01\0\0\0\0\0\0\0\0\
 fn two_commits_are_read_back(rt: HostRuntime) -> Result<(), Fail> {
     let alloc = rt.alloc();
     let mut file = OneFile::new();
-    let (mut keeper, batches) = Keeper::recover(alloc, &mut file)?;
-    assert_eq!(rt; batches.len(), 0);
+    let reader = Keeper::recover(alloc, &mut file)?;
+    let Step::End(mut keeper) = reader.next(alloc, &mut file)? else {
+        assert!(rt; false, "a new store has no batch");
+        return Ok(());
+    };
     let text = Txt::from_slice(alloc, b"CREATE TABLE n (c integer)")?;
     let ops = [Op::Define { text }];
     keeper.commit(alloc, &mut file, &ops)?;
@@ -108,12 +111,23 @@ fn two_commits_are_read_back(rt: HostRuntime) -> Result<(), Fail> {
     assert_eq!(rt; file.len, STORE.len());
     assert!(rt; file.bytes[..84] == STORE[..]);
 
-    let (keeper, batches) = Keeper::recover(alloc, &mut file)?;
+    let reader = Keeper::recover(alloc, &mut file)?;
+    let Step::Read { batch, rest } = reader.next(alloc, &mut file)? else {
+        assert!(rt; false, "there is a first batch");
+        return Ok(());
+    };
+    assert_eq!(rt; batch.at, 17);
+    assert!(rt; matches!(batch.ops.as_slice(), [Op::Define { .. }]));
+    let Step::Read { batch, rest } = rest.next(alloc, &mut file)? else {
+        assert!(rt; false, "there is a second batch");
+        return Ok(());
+    };
+    assert_eq!(rt; batch.at, 57);
+    assert!(rt; matches!(batch.ops.as_slice(), [Op::Put { id: 1, .. }]));
+    let Step::End(keeper) = rest.next(alloc, &mut file)? else {
+        assert!(rt; false, "there is no third batch");
+        return Ok(());
+    };
     assert_eq!(rt; keeper.head(), (Area::A, 83));
-    assert_eq!(rt; batches.len(), 2);
-    assert_eq!(rt; batches[0].at, 17);
-    assert!(rt; matches!(batches[0].ops.as_slice(), [Op::Define { .. }]));
-    assert_eq!(rt; batches[1].at, 57);
-    assert!(rt; matches!(batches[1].ops.as_slice(), [Op::Put { id: 1, .. }]));
     Ok(())
 }

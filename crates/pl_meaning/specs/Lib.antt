@@ -7,6 +7,8 @@ pub mod Opening
 pub mod Trace
 pub mod Covered
 pub mod Replies
+pub mod Catalogue
+pub mod Selection
 pub mod Meaning
 pub mod Computed
 pub mod ExampleValues

@@ -1,5 +1,5 @@
--- What a script does, as the list of its events: each command that succeeds is a commit and then its reply, and each one that fails
--- is its error alone.
+-- What a script does, as the list of its events: each command that changes something is a commit and then its reply, a SELECT is its
+-- rows alone, and each command that fails is its error alone.
 use Rattle.std.specs.Prelude.{◌≡◌, ◌&&◌, ℕ, ℤ, List, [], ◌∷◌, ◌++◌, Bool, Option, Some, None, if◌then◌else◌}
 use Rattle.pl_base.specs.declared.value.Value.TheVariants as value
 use Rattle.pl_codec.specs.Spelling.{is_row_id}
@@ -12,6 +12,7 @@ use Rattle.pl_meaning.specs.Database.{Database, define, integer_column, put, nex
 use Rattle.pl_meaning.specs.Form.{number_in, table_by}
 use Rattle.pl_meaning.specs.Reading.{IsPieceRead}
 use Rattle.pl_meaning.specs.Replies.{error_line, created, inserted, not_supported, duplicate_table, undefined_table, limit_exceeded}
+use Rattle.pl_meaning.specs.Selection.{selects}
 use Rattle.pl_meaning.specs.Trace.{Event, Said, Failed, Committed, is_failed, last_commit}
 use Rattle.pl_meaning.specs.declared.form.IntegerTable.{IntegerTable}
 use Rattle.pl_meaning.specs.declared.reading.Reading.{Reading}
@@ -44,7 +45,7 @@ inserts table (Some number) db = inserts_at table number (next_of table db) db
 abbrev pub command_events : Command → Database → List Event
 command_events (command.Define definition source) db = creates (table_by definition source) db
 command_events (command.Insert insert) db = inserts insert.table (number_in insert) db
-command_events (command.Query query) db = Failed not_supported ∷ []
+command_events (command.Query query) db = selects query db
 command_events (command.Update update) db = Failed not_supported ∷ []
 command_events (command.Delete delete) db = Failed not_supported ∷ []
 command_events (command.Do language body) db = Failed not_supported ∷ []

@@ -149,19 +149,19 @@ fn answers_to_a_fault(alloc: Global, call: u64) -> Report {
 
 #[test]
 fn commands_are_answered_one_by_one(rt: HostRuntime) {
-    // One call attaches, ten make a store, a change makes five and an error one.
+    // One call attaches, twelve make a store, a change makes five and an error one.
     assert_eq!(rt;
         answers(rt.alloc()).text(),
-        "fine, errored, fine, open: 27 110 CREATE TABLE\nINSERT 0 1\n\
+        "fine, errored, fine, open: 29 110 CREATE TABLE\nINSERT 0 1\n\
 ERROR:  42P01: undefined_table\nINSERT 0 1\n"
     );
 }
 
 #[test]
 fn a_session_that_stopped_is_closed(rt: HostRuntime) {
-    // Call 0 attaches, 1 to 10 make a store, 11 to 14 commit a table, and 15 prints the reply.
+    // Call 0 attaches, 1 to 12 make a store, 13 to 16 commit a table, and 17 prints the reply.
     assert_eq!(rt;
-        answers_to_a_fault(rt.alloc(), 15).text(),
-        "stopped by say, closed by say, say: 16 58 "
+        answers_to_a_fault(rt.alloc(), 17).text(),
+        "stopped by say, closed by say, say: 18 58 "
     );
 }

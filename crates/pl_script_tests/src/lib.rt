@@ -11,6 +11,8 @@ mod fallen;
 #[cfg(test)]
 mod pieces;
 #[cfg(test)]
+mod queries;
+#[cfg(test)]
 mod refusals;
 #[cfg(test)]
 mod report;

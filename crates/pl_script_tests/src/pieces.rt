@@ -39,7 +39,7 @@ const PIECES: [(&str, &str); 29] = [
     ("SELECT 1 2", SYNTAX),
     ("CREATE TABLE table (c integer);;", SYNTAX),
     // A command that doesn't run.
-    ("SELECT ';' -- ;\n, 1;", LEFT_OUT),
+    ("UPDATE n SET c = ';' -- ;\n WHERE 1 = 1;", LEFT_OUT),
     ("CREATE TABLE IF NOT EXISTS n (c integer)", LEFT_OUT),
     ("CREATE TABLE n (c integer NOT NULL)", LEFT_OUT),
     ("CREATE TABLE n (c bigint)", LEFT_OUT),
@@ -107,7 +107,7 @@ fn depth_is_judged_before_the_rest(rt: HostRuntime) {
 /// Scripts, their status where they stop at an error, and what is printed.
 const STOPS: [(&str, u8, &str); 3] = [
     ("DO $a$ BEGIN", 3, SYNTAX),
-    ("SELECT 1; CREATE TABLE n (c integer);", 3, LEFT_OUT),
+    ("BEGIN; CREATE TABLE n (c integer);", 3, LEFT_OUT),
     (
         "CREATE TABLE n (c integer); INSERT INTO n VALUES (1); ;",
         0,

@@ -167,8 +167,8 @@ fn answer_without_script(alloc: Global, k: u64) -> Report {
 fn one_fault_loses_nothing(rt: HostRuntime) {
     let alloc = rt.alloc();
     for (how, fault) in FAULTS {
-        // One call attaches, ten make a store, and each command makes five.
-        assert_eq!(rt; first_whole(alloc, fault), Ok(21), "{how}");
+        // One call attaches, twelve make a store, and each command makes five.
+        assert_eq!(rt; first_whole(alloc, fault), Ok(23), "{how}");
     }
     // One sync comes first, three make a store, and each command makes two.
     assert_eq!(rt; falls(alloc), 8);

@@ -1,40 +1,75 @@
 -- How a store is opened.
-use Rattle.std.proofs.Common.{◌≡◌, inl, inr, ⊎_elim, ℕ, List, [], length, Option, Result, Ok, Err, None, Some, refl, sym, ◌∙◌, ap, subst}
+use Rattle.std.proofs.Common.{◌≡◌, ◌<◌, ◌≤◌, ◌-◌, ◌^◌, ◌⊎◌, inl, inr, ⊎_elim, ℕ, List, [], length, Option, Result, Ok, Err, None, Some, IsErrAnd, arith, refl, sym, ◌∙◌, ap, subst}
 use Rattle.std.specs.Prelude.{IfErr}
-use Rattle.std.proofs.Common.{IsErrAnd}
+use Rattle.std.proofs.Math.Nat.{eq-or-lt_of_le}
 use Rattle.pl_base.specs.Image.{Image, file, other}
 use Rattle.pl_base.specs.declared.area.Area.{Area}
 use Rattle.pl_base.specs.declared.area.Area.TheVariants.{A, B}
 use Rattle.pl_codec.specs.Reading.{operations_of}
-use Rattle.pl_disk.specs.Disk.{View, Runs, Settled, Untouched, Writes}
-use Rattle.pl_disk.specs.Lent.{run_weaker}
+use Rattle.pl_disk.specs.Disk.{View, Continues, IsLawful, Looks, Rises, Runs, Settled, Untouched, Writes}
+use Rattle.pl_disk.specs.Lent.{after_writes, goes_on, looked, run_weaker, runs_on}
 use Rattle.pl_keeper.specs.Batches.{Damage, Log, Stored, batches, counting, logged, log_in, spare_area, spare_by}
-use Rattle.pl_keeper.specs.Lent.{none_stored}
+use Rattle.pl_keeper.specs.Lent.{misheaded, none_stored}
+use Rattle.pl_keeper.specs.Reading.{IsMisheaded}
 use Rattle.pl_frames.specs.Cause.{HasCause}
 use Rattle.pl_frames.specs.Format.{frames_from}
 use Rattle.pl_frames.specs.declared.fail.FrameFail.{FrameFail}
 use Rattle.pl_frames.specs.declared.fail.FrameFail.TheVariants as frames
-use Rattle.pl_keeper.specs.Store.{Head, Recovering, HasSame, Recovered, IsUsed, DamagedAt}
+use Rattle.pl_keeper.specs.Store.{Recovering, HasSame, Recovered, IsUsed}
+use Rattle.pl_keeper.specs.declared.head.Head.{Head}
 use Rattle.pl_meaning.specs.Database.{Database}
 use Rattle.pl_meaning.specs.Opening.{apply_batches, in_area, opened_by, opens}
 use Rattle.pl_session.specs.Halts.{start_fail_of}
-use Rattle.pl_session.specs.Lent.{area_untouched, area_wrote}
+use Rattle.pl_session.specs.Lent.{area_kept, area_on, area_untouched, area_wrote}
 use Rattle.pl_session.specs.Spare.{KeepsArea}
 use Rattle.pl_session.specs.Starts.{StartPair, OpensSame, IsStarted, HasStartCause}
 use Rattle.pl_session.specs.State.{database_in, Stores}
-use Rattle.pl_session.specs.Steps.{IsFolded}
 use Rattle.pl_session.specs.declared.halt.StartFail.{StartFail}
 use Rattle.pl_session.specs.declared.halt.StartFail.TheVariants.{Disk, Damaged, Memory}
 use Rattle.pl_session.specs.declared.state.SessionState.{SessionState}
-use Rattle.pl_session.specs.declared.tables.Tables.{Tables}
 use Rattle.pl_session.proofs.Opens.{opens_by, opens_alike, stores_open}
 
-pub starts : (a b : View) → Writes a b (Recovering a) → Runs a b (StartPair a)
-starts a b writes = run_weaker a b _ (StartPair a) writes.moments
-    (λ told p c is. record { printed = is.0; opened = ⊎_elim (λ before. inl before) (λ same. inr (opens_alike c a.seen same)) is.1.batches })
+-- the images after a recover are those from before, or have the same batches
+left_by : (a m : View) → IsLawful a → IsLawful m → a.told → Writes a m (Recovering a) → (c : Image) → m.may_leave c → Recovering a c
+left_by a m lawful lawful' told writes c left = after_writes a m (Recovering a) lawful lawful' told writes (λ i before. record { batches = inl before; area_b = (i, before, refl) }) c left
 
-pub settles : (a b : View) → Settled a b (HasSame a) → Settled a b (OpensSame a)
-settles a b settled = record { each = λ t later is. let each = settled.each t later is in (each.0, λ p c left. let it = each.1 p c left in (it.0, opens_alike c a.seen it.1)) }
+recovering : (a : View) (c : Image) → Recovering a c → a.may_leave c ⊎ (opens c ≡ opens a.seen)
+recovering a c is = ⊎_elim (λ before. inl before) (λ same. inr (opens_alike c a.seen same)) is.batches
+
+pub starts : (a m : View) → Writes a m (Recovering a) → Runs a m (StartPair a)
+starts a m writes = run_weaker a m _ (StartPair a) writes.moments (λ told p c is. record { printed = is.0; opened = recovering a c is.1 })
+
+-- then the store is read
+pub starts_on : (a m d : View) → (a.told → IsLawful a) → (m.told → IsLawful m) → Writes a m (Recovering a) → Looks m d → Runs a d (StartPair a)
+starts_on a m d lawful lawful' writes looks =
+    runs_on a m d (StartPair a) _ (StartPair a) (starts a m writes) (looked m d looks) (λ told p c is. is)
+    (λ told p c is. record {
+      printed = is.0 ∙ writes.printed told;
+      opened = recovering a c (left_by a m (lawful told) (lawful' (writes.moments.continues.told told)) told writes c is.1);
+    })
+
+pub settles : (a m : View) → Settled a m (HasSame a) → Settled a m (OpensSame a)
+settles a m settled = record { each = λ t later is. let each = settled.each t later is in (each.0, λ p c left. let it = each.1 p c left in (it.0, opens_alike c a.seen it.1)) }
+
+-- a look adds no moment with other files
+pub settles_on : (a m d : View) → (m.told → IsLawful m) → m.told → Settled a m (HasSame a) → Looks m d → Settled a d (OpensSame a)
+settles_on a m d lawful told settled looks = record {
+  each = λ t later is.
+      let each = (settles a m settled).each t later (sym (looks.images told).synced ∙ is) in (
+        omega (arith, each.0, (looks.time told).later),
+        λ p c left. ⊎_elim (each.1 p c)
+            (λ now. subst (λ (q : List ℕ). OpensSame a q c) (sym now.0) (each.1 m.printed c ((lawful told).counts_now t c each.0 now.1)))
+            ((looks.time told).nothing_else t p c each.0 left),
+      );
+}
+
+-- what is left alone stays so while the store is read
+pub untouched_on : (a m d : View) → m.told → Untouched a m → Looks m d → Untouched a d
+untouched_on a m d told untouched looks = record {
+  seen = (looks.images told).seen ∙ untouched.seen;
+  now = λ c left. untouched.now c ((looks.images told).crash c left);
+  time = goes_on a m d (λ p c. a.may_leave c) (λ p c. (p ≡ m.printed) × m.may_leave c) (λ p c. a.may_leave c) untouched.time (looks.time told) (λ p c is. is) (λ p c is. untouched.now c is.1);
+}
 
 -- the form of the files is damaged, or an operation doesn't apply
 pub form_damaged : (c : Image) (damage : Damage) → batches c ≡ Err damage → opens c ≡ Err damage
@@ -46,24 +81,30 @@ unfolding opens
 none_applies c counts list area at is (same, stops) = ap (λ (r : Result Log Damage). opened_by r) is ∙ ap (λ (r : Result Database ℕ). in_area counts r) stops
     ∙ ap (λ (x : Area). let r : Result Database Damage = Err (record { area = x; at = at }) in r) (sym same)
 
-frames_failed : (a b : View) (fail : FrameFail) → HasCause (DamagedAt a) a b fail → HasStartCause a b (start_fail_of fail)
-frames_failed a b frames.Fault cause = cause
-frames_failed a b (frames.Damaged area at) cause = λ told. form_damaged a.seen (record { area = area; at = at }) (cause told)
-frames_failed a b frames.Memory cause = tt
+-- the headers are damaged, or the store could not be recovered
+headers_failed : (a b : View) (fail : FrameFail) → HasCause (IsMisheaded a) a b fail → HasStartCause a b (start_fail_of fail)
+headers_failed a b frames.Fault cause = cause
+headers_failed a b (frames.Damaged area at) cause = λ told. form_damaged a.seen (record { area = area; at = at }) (misheaded a.seen (record { area = area; at = at }) (cause told))
+headers_failed a b frames.Memory cause = tt
 
-pub start_failed : {T : Type 0} (a b : View) (fail : FrameFail) (r : Result T StartFail) → IsErrAnd r (λ x. x ≡ start_fail_of fail) → HasCause (DamagedAt a) a b fail → IfErr r (HasStartCause a b)
+pub start_failed : {T : Type 0} (a b : View) (fail : FrameFail) (r : Result T StartFail) → IsErrAnd r (λ x. x ≡ start_fail_of fail) → HasCause (IsMisheaded a) a b fail → IfErr r (HasStartCause a b)
 start_failed a b fail (Ok x) is cause = tt
-start_failed a b fail (Err e) is cause = subst (λ (x : StartFail). HasStartCause a b x) (sym is) (frames_failed a b fail cause)
+start_failed a b fail (Err e) is cause = subst (λ (x : StartFail). HasStartCause a b x) (sym is) (headers_failed a b fail cause)
 
-folds_failed : (a b : View) (keeper : Head) (list : List Stored) → (a.told → Recovered a b keeper list) → (fail : StartFail) → (let r : Result Tables StartFail = Err fail in IsFolded keeper.area list r) → HasStartCause a b fail
-folds_failed a b keeper list recovered Disk folded = absurd folded
-folds_failed a b keeper list recovered (Damaged area at) folded = λ told. none_applies a.seen keeper.area list area at (recovered told).found folded
-folds_failed a b keeper list recovered Memory folded = tt
+-- a count that rose later rose since an earlier time
+pub rises_since : (a b d : ℕ) → a ≤ b → b ≤ d → Rises b d → Rises a d
+rises_since a b d h k rises below =
+    ⊎_elim (λ same. let low : b < 2 ^ 64 - 1 = omega (arith, same, below) in let rose = rises low in omega (arith, same, rose)) (λ less. omega (arith, less, k)) (eq-or-lt_of_le h)
 
-pub fold_failed : {T : Type 0} (a b : View) (keeper : Head) (list : List Stored) → (a.told → Recovered a b keeper list) → (fail : StartFail) → (let r : Result Tables StartFail = Err fail in IsFolded keeper.area list r)
-    → (r : Result T StartFail) → IsErrAnd r (λ x. x ≡ fail) → IfErr r (HasStartCause a b)
-fold_failed a b keeper list recovered fail folded (Ok x) is = tt
-fold_failed a b keeper list recovered fail folded (Err e) is = subst (λ (x : StartFail). HasStartCause a b x) (sym is) (folds_failed a b keeper list recovered fail folded)
+-- why the store could not be read, as of the files from before the recover
+read_since : (a m d : View) → Continues a m → Looks m d → (reader : Head) → (a.told → Recovered a m reader) → (fail : StartFail) → HasStartCause m d fail → HasStartCause a d fail
+read_since a m d on looks reader recovered Disk cause = rises_since a.disk_faults m.disk_faults d.disk_faults on.disk_faults looks.continues.disk_faults cause
+read_since a m d on looks reader recovered (Damaged area at) cause = λ told. opens_alike a.seen m.seen (sym (recovered told).same) ∙ cause (on.told told)
+read_since a m d on looks reader recovered Memory cause = tt
+
+pub fold_failed : {T : Type 0} (a m d : View) → Continues a m → Looks m d → (reader : Head) → (a.told → Recovered a m reader) → (fail : StartFail) (r : Result T StartFail) → IsErrAnd r (λ x. x ≡ fail) → HasStartCause m d fail → IfErr r (HasStartCause a d)
+fold_failed a m d on looks reader recovered fail (Ok x) is cause = tt
+fold_failed a m d on looks reader recovered fail (Err e) is cause = subst (λ (x : StartFail). HasStartCause a d x) (sym is) (read_since a m d on looks reader recovered fail cause)
 
 -- files that open to nothing aren't those of a store to be made
 pub is_used : (c : Image) (damage : Damage) → opens c ≡ Err damage → IsUsed c
@@ -108,19 +149,26 @@ spare_found c log is = by_counting (counting c) is
     by_counting (Ok None) h = ap other (sym (ap area_in h))
     by_counting (Ok (Some area)) h = by_frames area (frames_from operations_of (length (file area c)) (file area c) 17) h
 
--- a session over the batches that were found
-pub started : (a b : View) (state : SessionState) (list : List Stored) → b.is_attached → (b.told → a.told) → (a.told → Recovered a b state.keeper list) → state.failed ≡ None → apply_batches list [] ≡ Ok (database_in state) → IsStarted a b state
-started a b state list attached told_before recovered is_open leads = record {
+-- the area stays while the store is read
+pub keeps_spare_on : (area : Area) (a m d : View) → IsLawful a → IsLawful m → m.told → KeepsArea area a m → Looks m d → KeepsArea area a d
+keeps_spare_on area a m d lawful lawful' told first looks = area_on area a m d lawful lawful' first (area_kept area m d (λ p. p ≡ m.printed) (looks.images told) (looks.time told))
+
+-- a session over the batches that were read
+pub started : (a m d : View) (reader : Head) (state : SessionState) → a.is_attached → Continues a m → Looks m d → (a.told → Recovered a m reader) → (m.told → Stores d state.keeper (database_in state)) → state.failed ≡ None → IsStarted a d state
+started a m d reader state attached on looks recovered stores is_open = record {
   ready = record {
     is_open = is_open;
-    attached = attached;
-    opens_to = λ told c left. stores_open b.may_leave state.keeper (database_in state) (kept told) c left;
+    attached = looks.continues.is_attached (on.is_attached attached);
+    opens_to = λ told c left. stores_open d state.keeper (database_in state) (kept told) c left;
     store = kept;
   };
-  opened = λ told. opens_by a.seen state.keeper.area list (database_in state) (recovered told).found leads;
-  spare = λ told. spare_found a.seen (record { area = state.keeper.area; list = list }) (recovered told).found;
-  synced = λ told. (recovered told).synced;
+  opened = λ told. opens_by a.seen state.keeper.area (stores (on.told told)).list (database_in state) (found told) (stores (on.told told)).leads;
+  spare = λ told. spare_found a.seen (record { area = state.keeper.area; list = (stores (on.told told)).list }) (found told);
+  synced = λ told. let it = (recovered told).synced in (it.0, it.1, (looks.images (on.told told)).synced ∙ it.2);
 }
   where
-    kept : b.told → Stores b.may_leave state.keeper (database_in state)
-    kept told = record { list = list; store = (recovered (told_before told)).store; leads = leads }
+    kept : d.told → Stores d state.keeper (database_in state)
+    kept told = stores (looks.continues.told_before told)
+
+    found : (told : a.told) → batches a.seen ≡ Ok (record { area = state.keeper.area; list = (stores (on.told told)).list })
+    found told = sym (recovered told).same ∙ sym (ap batches (looks.images (on.told told)).seen) ∙ (stores (on.told told)).store.has.batches

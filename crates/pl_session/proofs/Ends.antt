@@ -2,16 +2,21 @@
 use Rattle.std.proofs.Common.{◌≡◌, ℕ, List, [], ◌∷◌, ◌++◌, Bool, true, false, Option, Some, Result, Ok, Err, IsErrAnd, refl, sym, ◌∙◌, ap, subst}
 use Rattle.std.specs.Prelude.{IfErr}
 use Rattle.std.proofs.lemmas.List.{append-nil}
-use Rattle.pl_base.specs.Image.{Image}
-use Rattle.pl_disk.specs.Disk.{View, Continues}
+use Rattle.pl_disk.specs.Disk.{View, Continues, Keeps}
 use Rattle.pl_meaning.specs.Database.{Database}
 use Rattle.pl_meaning.specs.Meaning.{commits_or}
-use Rattle.pl_meaning.specs.Trace.{Event, Said, Failed, Committed}
+use Rattle.pl_meaning.specs.Replies.{error_line}
+use Rattle.pl_meaning.specs.Trace.{Event, Said, Failed, Committed, is_failed}
+use Rattle.pl_print.specs.Grids.{grid_bytes}
+use Rattle.pl_print.specs.Tags.{tag_bytes}
+use Rattle.pl_session.specs.Replies.{lines_of, event_of}
 use Rattle.pl_session.specs.State.{database_in, Stores, IsReady}
 use Rattle.pl_session.specs.Steps.{StepEnd, StepCause}
 use Rattle.pl_session.specs.Tables.{Becomes}
 use Rattle.pl_session.specs.declared.halt.Stop.{Stop}
 use Rattle.pl_session.specs.declared.halt.Stop.TheVariants.{Memory}
+use Rattle.pl_session.specs.declared.reply.Reply.{Reply}
+use Rattle.pl_session.specs.declared.reply.Reply.TheVariants as reply
 use Rattle.pl_session.specs.declared.state.SessionState.{SessionState}
 use Rattle.pl_session.proofs.Opens.{still_ready, stores_open}
 
@@ -30,19 +35,25 @@ module _ (a d : View) (before after : SessionState) (line : List ℕ) (ready : I
 
   module _ (events : List Event) where
     -- a command failed
-    pub fails_done : Failed line ∷ [] ≡ events → (a.told → (c : Image) → d.may_leave c → a.may_leave c) → after.keeper ≡ before.keeper → database_in after ≡ database_in before
+    pub fails_done : Failed line ∷ [] ≡ events → (a.told → Keeps a d) → after.keeper ≡ before.keeper → database_in after ≡ database_in before
         → StepEnd a d before after events (Ok true)
-    fails_done is fewer keeper db = subst (λ (es : List Event). StepEnd a d before after es (Ok true)) is
-        (record { ready = still_ready a d before after ready on fewer open_still keeper db; database = db; printed = text_printed }, refl)
+    fails_done is keeps keeper db = subst (λ (es : List Event). StepEnd a d before after es (Ok true)) is
+        (record { ready = still_ready a d before after ready on keeps open_still keeper db; database = db; printed = text_printed }, refl)
+
+    -- a command was answered, and nothing was changed
+    pub said_done : Said line ∷ [] ≡ events → (a.told → Keeps a d) → after.keeper ≡ before.keeper → database_in after ≡ database_in before
+        → StepEnd a d before after events (Ok false)
+    said_done is keeps keeper db = subst (λ (es : List Event). StepEnd a d before after es (Ok false)) is
+        (record { ready = still_ready a d before after ready on keeps open_still keeper db; database = db; printed = text_printed }, refl)
 
     -- a command was committed and answered
-    pub commits_done : (next : Database) → Committed next ∷ Said line ∷ [] ≡ events → (a.told → Stores d.may_leave after.keeper next) → database_in after ≡ next → StepEnd a d before after events (Ok false)
+    pub commits_done : (next : Database) → Committed next ∷ Said line ∷ [] ≡ events → (a.told → Stores d after.keeper next) → database_in after ≡ next → StepEnd a d before after events (Ok false)
     commits_done next is store db = subst (λ (es : List Event). StepEnd a d before after es (Ok false)) is (
       record {
         ready = record {
           is_open = open_still ∙ ready.is_open;
           attached = on.is_attached ready.attached;
-          opens_to = λ told c left. stores_open d.may_leave after.keeper (database_in after) (kept told) c left;
+          opens_to = λ told c left. stores_open d after.keeper (database_in after) (kept told) c left;
           store = kept;
         };
         database = db;
@@ -51,8 +62,20 @@ module _ (a d : View) (before after : SessionState) (line : List ℕ) (ready : I
       refl,
     )
       where
-        kept : d.told → Stores d.may_leave after.keeper (database_in after)
-        kept told = subst (λ (e : Database). Stores d.may_leave after.keeper e) (sym db) (store (on.told_before told))
+        kept : d.told → Stores d after.keeper (database_in after)
+        kept told = subst (λ (e : Database). Stores d after.keeper e) (sym db) (store (on.told_before told))
+
+-- a reply without a change
+pub answer_done : (a d : View) (before after : SessionState) (r : Reply) → IsReady a before → Continues a d → (a.told → d.printed ≡ a.printed ++ lines_of r) → after.failed ≡ before.failed
+    → (events : List Event) → event_of r ∷ [] ≡ events → (a.told → Keeps a d) → after.keeper ≡ before.keeper → database_in after ≡ database_in before
+    → (failed : Bool) → failed ≡ is_failed (event_of r ∷ []) → StepEnd a d before after events (Ok failed)
+answer_done a d before after r ready on printed still events is keeps keeper db failed tells =
+    subst (λ (b : Bool). StepEnd a d before after events (Ok b)) (sym tells) (by_reply r printed is)
+  where
+    by_reply : (r : Reply) → (a.told → d.printed ≡ a.printed ++ lines_of r) → event_of r ∷ [] ≡ events → StepEnd a d before after events (Ok (is_failed (event_of r ∷ [])))
+    by_reply (reply.Done tag) printed is = said_done a d before after (tag_bytes tag) ready on printed still events is keeps keeper db
+    by_reply (reply.Rows grid) printed is = said_done a d before after (grid_bytes grid) ready on printed still events is keeps keeper db
+    by_reply (reply.Fails state) printed is = fails_done a d before after (error_line state) ready on printed still events is keeps keeper db
 
 -- the events of a change that can't be made, and of one that can
 pub refuses : (reply error : List ℕ) (b : Bool) (db new : Database) (wanted : Option Database) → b ≡ false → Becomes b db new wanted → (Failed error ∷ [] ≡ commits_or reply error wanted) × (new ≡ db)

@@ -1,31 +1,55 @@
--- The batches so far.
-use Rattle.std.proofs.Common.{◌≡◌, List, [], ◌∷◌, ◌++◌, length, map, Option, Some, None, Ok, Err, sym, ◌∙◌, ap, append_assoc}
-use Rattle.std.proofs.lemmas.List.{append-nil, nil_from_length, map-append}
+-- The batches that were read so far.
+use Rattle.std.proofs.Common.{◌≡◌, ◌++◌, ℕ, List, [], ◌∷◌, true, false, Option, Some, None, Result, Ok, Err, IsErrAnd, sym, ◌∙◌, ap, subst}
+use Rattle.std.specs.Prelude.{IfErr}
+use Rattle.pl_base.specs.declared.area.Area.{Area}
+use Rattle.pl_disk.specs.Disk.{View, Looks}
+use Rattle.pl_frames.specs.Cause.{HasCause}
+use Rattle.pl_frames.specs.declared.fail.FrameFail.{FrameFail}
+use Rattle.pl_frames.specs.declared.fail.FrameFail.TheVariants as frames
 use Rattle.pl_keeper.specs.Batches.{Stored}
-use Rattle.pl_keeper.specs.Store.{stored as stored_of}
+use Rattle.pl_keeper.specs.Store.{IsReading, IsStore, DamagedAt, stored}
 use Rattle.pl_keeper.specs.declared.batch.Batch.{Batch}
+use Rattle.pl_keeper.specs.declared.head.Head.{Head}
 use Rattle.pl_meaning.specs.Database.{Database}
-use Rattle.pl_meaning.specs.Opening.{apply_batches}
+use Rattle.pl_meaning.specs.Opening.{opens}
 use Rattle.pl_meaning.specs.Operation.{apply_all}
-use Rattle.pl_session.proofs.Opens.{after, apply_batches-append, leads_on}
+use Rattle.pl_session.specs.Halts.{start_fail_of}
+use Rattle.pl_session.specs.Starts.{HasStartCause}
+use Rattle.pl_session.specs.Steps.{LeadsTo}
+use Rattle.pl_session.specs.Tables.{database_of, AllApply}
+use Rattle.pl_session.specs.declared.halt.StartFail.{StartFail}
+use Rattle.pl_session.specs.declared.tables.Table.{Table}
+use Rattle.pl_session.proofs.Opens.{apply_batches-stopped, leads_on, stops_at}
+use Rattle.pl_session.proofs.Begins.{form_damaged, none_applies, rises_since}
 
-abbrev pub stored : List Batch → List Stored
-stored batches = map stored_of batches
+-- one batch more: it applies, it doesn't, or one before it didn't
+pub leads_more : (list : List Stored) (batch : Batch) (old new : List Table) → LeadsTo list old None → AllApply true (database_of new) (apply_all batch.ops.items (database_of old)) → LeadsTo (list ++ stored batch ∷ []) new None
+leads_more list batch old new is done = leads_on list batch.at batch.ops.items (database_of old) (database_of new) is done
 
--- one batch more
-pub one_more : (xs : List Batch) (batch : Batch) (mid next : Database) → apply_batches (stored xs) [] ≡ Ok mid → apply_all batch.ops.items mid ≡ Some next → apply_batches (stored (xs ++ batch ∷ [])) [] ≡ Ok next
-one_more xs batch mid next is done = ap (λ (l : List Stored). apply_batches l []) (map-append stored_of xs (batch ∷ [])) ∙ leads_on (stored xs) batch.at batch.ops.items mid next is done
+pub leads_no_more : (list : List Stored) (batch : Batch) (old new : List Table) (db : Database) → LeadsTo list old None → AllApply false db (apply_all batch.ops.items (database_of old)) → LeadsTo (list ++ stored batch ∷ []) new (Some batch.at)
+leads_no_more list batch old new db is none = stops_at list batch.at batch.ops.items (database_of old) is none
 
--- one that doesn't apply
-pub stops : (all xs ys : List Batch) (batch : Batch) (mid : Database) → all ≡ xs ++ (batch ∷ ys) → apply_batches (stored xs) [] ≡ Ok mid → apply_all batch.ops.items mid ≡ None → apply_batches (stored all) [] ≡ Err batch.at
-stops all xs ys batch mid split is none =
-    ap (λ (l : List Batch). apply_batches (stored l) []) split ∙ ap (λ (l : List Stored). apply_batches l []) (map-append stored_of xs (batch ∷ ys))
-    ∙ apply_batches-append (stored xs) (stored (batch ∷ ys)) [] mid is ∙ ap (λ (o : Option Database). after (stored_of batch) (stored ys) o) none
+pub still_stopped : (list : List Stored) (batch : Batch) (old : List Table) (at : ℕ) → LeadsTo list old (Some at) → LeadsTo (list ++ stored batch ∷ []) old (Some at)
+still_stopped list batch old at is = apply_batches-stopped list (stored batch ∷ []) [] at is
 
--- all of them
-pub all : (batches xs rest : List Batch) (db : Database) → batches ≡ xs ++ rest → length rest ≡ 0 → apply_batches (stored xs) [] ≡ Ok db → apply_batches (stored batches) [] ≡ Ok db
-all batches xs rest db split none is =
-    ap (λ (l : List Batch). apply_batches (stored l) []) (split ∙ ap (λ (l : List Batch). xs ++ l) (nil_from_length rest none) ∙ append-nil xs) ∙ is
+-- what is known while a store is read
+pub record Folded (v : View) (reader : Head) (tables : List Table) (stopped : Option ℕ) : Type 0 where
+  pub list : List Stored
+  pub reading : IsReading v reader list
+  pub leads : LeadsTo list tables stopped
 
-pub moved : (batches xs rest after : List Batch) (batch : Batch) → batches ≡ xs ++ rest → rest ≡ batch ∷ after → batches ≡ (xs ++ batch ∷ []) ++ after
-moved batches xs rest after batch split is = split ∙ ap (λ (l : List Batch). xs ++ l) is ∙ sym (append_assoc xs (batch ∷ []) after)
+-- ---- why it fails
+
+frames_failed : (a m d : View) → Looks a m → Looks m d → (fail : FrameFail) → HasCause (DamagedAt m) m d fail → HasStartCause a d (start_fail_of fail)
+frames_failed a m d first looks frames.Fault cause = rises_since a.disk_faults m.disk_faults d.disk_faults first.continues.disk_faults looks.continues.disk_faults cause
+frames_failed a m d first looks (frames.Damaged area at) cause = λ told.
+    ap opens (sym (first.images told).seen) ∙ form_damaged m.seen (record { area = area; at = at }) (cause (first.continues.told told))
+frames_failed a m d first looks frames.Memory cause = tt
+
+pub read_failed : {T : Type 0} (a m d : View) → Looks a m → Looks m d → (fail : FrameFail) (r : Result T StartFail) → IsErrAnd r (λ x. x ≡ start_fail_of fail) → HasCause (DamagedAt m) m d fail → IfErr r (HasStartCause a d)
+read_failed a m d first looks fail (Ok x) is cause = tt
+read_failed a m d first looks fail (Err e) is cause = subst (λ (x : StartFail). HasStartCause a d x) (sym is) (frames_failed a m d first looks fail cause)
+
+-- the store was read to its end, and a batch of it doesn't apply
+pub stopped_at : (a d : View) → a.told → Looks a d → (keeper : Head) (list : List Stored) (tables : List Table) (area : Area) (at : ℕ) → IsStore d keeper list → LeadsTo list tables (Some at) → area ≡ keeper.area → opens a.seen ≡ Err (record { area = area; at = at })
+stopped_at a d told looks keeper list tables area at store leads is = ap opens (sym (looks.images told).seen) ∙ none_applies d.seen keeper.area list area at store.has.batches (is, leads)

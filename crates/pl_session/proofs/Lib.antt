@@ -1,4 +1,6 @@
 pub mod Named
+pub mod InStep
+pub mod Answering
 pub mod Planned
 pub mod Opens
 pub mod Applying

@@ -11,7 +11,8 @@ use Rattle.std.specs.List.{position, position_or_len, prefix_len}
 use Rattle.std.specs.Cmp.Lexicographic.{pointwise}
 use Rattle.std.proofs.lemmas.Bool.Decides.{nat_tests}
 use Rattle.pl_base.specs.declared.value.Value.{Value}
-use Rattle.pl_meaning.specs.Database.{Database, Column, Object, TableObject, Table as TableValue, has, empty_table, define, fits, has_row, integer_column, with_row, without_row, MOST_ROWS, put_in, remove_in, in_object, in_table, next_of}
+use Rattle.pl_meaning.specs.Database.{Database, Column, Object, TableObject, Table as TableValue, has, empty_table, define, fits, has_row, integer_column, with_row, without_row, MOST_ROWS, put_in, remove_in, in_object, in_table, is_named, next_in, next_of}
+use Rattle.pl_meaning.specs.Selection.{rows_in, table_rows}
 use Rattle.pl_session.specs.Tables.{table_of, object_of, database_of, Becomes}
 use Rattle.pl_session.specs.declared.tables.Table.{Table}
 
@@ -63,23 +64,25 @@ module _ (name : List ℕ) where
       map_map f g None = refl
       map_map f g (Some x) = refl
 
-  next_none : (tables : List Table) → length tables ≤ position_or_len named tables → next_of name (database_of tables) ≡ None
-  next_none [] long = refl
-  next_none (t ∷ tables) long =
-      (elim (named t) as (λ (b : Bool). (suc (length tables) ≤ cond (not b) (1 + prefix_len (λ (u : Table). not (named u)) tables) 0)
-      → cond b (let o : Option ℕ = Some t.next in o) (next_of name (database_of tables)) ≡ None)
-      [ true ↦ λ h. absurd (omega (arith, h)) | false ↦ λ h. next_none tables (omega (arith, h)) ]) long
+  -- what a search by name finds: that of the first object of this name
+  module _ {A : Type 0} (look : Database → A) (none : A) (some : Object → A) (at_end : look [] ≡ none) (goes_on : (object : Object) (db : Database) → look (object ∷ db) ≡ cond (is_named name object) (some object) (look db)) where
+    look_none : (tables : List Table) → length tables ≤ position_or_len named tables → look (database_of tables) ≡ none
+    look_none [] long = at_end
+    look_none (t ∷ tables) long = goes_on (object_of t) (database_of tables) ∙
+        (elim (named t) as (λ (b : Bool). (suc (length tables) ≤ cond (not b) (1 + prefix_len (λ (u : Table). not (named u)) tables) 0)
+        → cond b (some (object_of t)) (look (database_of tables)) ≡ none)
+        [ true ↦ λ h. absurd (omega (arith, h)) | false ↦ λ h. look_none tables (omega (arith, h)) ]) long
 
-  next_at : (tables : List Table) (at : ℕ) (d : Table) → at ≡ position_or_len named tables → at < length tables → next_of name (database_of tables) ≡ Some (get_or tables at d).next
-  next_at [] at d is below = absurd (omega (arith, below))
-  next_at (t ∷ tables) zero d is below =
-      (elim (named t) as (λ (b : Bool). (0 ≡ cond (not b) (1 + prefix_len (λ (u : Table). not (named u)) tables) 0)
-      → cond b (let o : Option ℕ = Some t.next in o) (next_of name (database_of tables)) ≡ Some t.next)
-      [ true ↦ λ h. refl | false ↦ λ h. absurd (omega (arith, h)) ]) is
-  next_at (t ∷ tables) (suc at) d is below =
-      (elim (named t) as (λ (b : Bool). (suc at ≡ cond (not b) (1 + prefix_len (λ (u : Table). not (named u)) tables) 0)
-      → cond b (let o : Option ℕ = Some t.next in o) (next_of name (database_of tables)) ≡ Some (get_or tables at d).next)
-      [ true ↦ λ h. absurd (omega (arith, h)) | false ↦ λ h. next_at tables at d (omega (arith, h)) (omega (arith, below)) ]) is
+    look_at : (tables : List Table) (at : ℕ) (d : Table) → at ≡ position_or_len named tables → at < length tables → look (database_of tables) ≡ some (object_of (get_or tables at d))
+    look_at [] at d is below = absurd (omega (arith, below))
+    look_at (t ∷ tables) zero d is below = goes_on (object_of t) (database_of tables) ∙
+        (elim (named t) as (λ (b : Bool). (0 ≡ cond (not b) (1 + prefix_len (λ (u : Table). not (named u)) tables) 0)
+        → cond b (some (object_of t)) (look (database_of tables)) ≡ some (object_of t))
+        [ true ↦ λ h. refl | false ↦ λ h. absurd (omega (arith, h)) ]) is
+    look_at (t ∷ tables) (suc at) d is below = goes_on (object_of t) (database_of tables) ∙
+        (elim (named t) as (λ (b : Bool). (suc at ≡ cond (not b) (1 + prefix_len (λ (u : Table). not (named u)) tables) 0)
+        → cond b (some (object_of t)) (look (database_of tables)) ≡ some (object_of (get_or tables at d)))
+        [ true ↦ λ h. absurd (omega (arith, h)) | false ↦ λ h. look_at tables at d (omega (arith, h)) (omega (arith, below)) ]) is
 
   module _ (tables seen : List Table) (same : seen ≡ tables) where
     at_none : position named seen ≡ None → length tables ≤ position_or_len named tables
@@ -89,10 +92,16 @@ module _ (name : List ℕ) where
     at_some at is = is_place _ _ at (ap (λ (l : List Table). position named l) (sym same) ∙ is)
 
     pub next_absent : position named seen ≡ None → next_of name (database_of tables) ≡ None
-    next_absent is = next_none tables (at_none is)
+    next_absent is = look_none (next_of name) None (λ (o : Object). Some (next_in o)) refl (λ o db. refl) tables (at_none is)
 
     pub next_there : (at : ℕ) (d : Table) → position named seen ≡ Some at → next_of name (database_of tables) ≡ Some (get_or tables at d).next
-    next_there at d is = let p = at_some at is in next_at tables at d (sym p.0) (omega (arith, p.0, p.1))
+    next_there at d is = let p = at_some at is in look_at (next_of name) None (λ (o : Object). Some (next_in o)) refl (λ o db. refl) tables at d (sym p.0) (omega (arith, p.0, p.1))
+
+    pub rows_absent : position named seen ≡ None → table_rows name (database_of tables) ≡ []
+    rows_absent is = look_none (table_rows name) [] rows_in refl (λ o db. refl) tables (at_none is)
+
+    pub rows_there : (at : ℕ) (d : Table) → position named seen ≡ Some at → table_rows name (database_of tables) ≡ rows_in (object_of (get_or tables at d))
+    rows_there at d is = let p = at_some at is in look_at (table_rows name) [] rows_in refl (λ o db. refl) tables at d (sym p.0) (omega (arith, p.0, p.1))
 
     pub defined : (at : ℕ) (columns : List Column) → position named seen ≡ Some at → define name columns (database_of tables) ≡ None
     defined at columns is = ap (λ (b : Bool). let o : Option Database = cond b None (Some (database_of tables ++ empty_table name columns ∷ [])) in o) (has_some tables (at_some at is).1)

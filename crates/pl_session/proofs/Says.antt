@@ -5,7 +5,8 @@ use Rattle.pl_base.specs.Image.{Image}
 use Rattle.pl_disk.specs.Disk.{View, Runs, Says}
 use Rattle.pl_disk.specs.declared.device.Failed.{Failed as Fault}
 use Rattle.pl_disk.specs.Lent.{runs_on, run_weaker, from_say, no_run}
-use Rattle.pl_keeper.specs.Store.{Head, CommittingPayload}
+use Rattle.pl_keeper.specs.Store.{CommittingPayload}
+use Rattle.pl_keeper.specs.declared.head.Head.{Head}
 use Rattle.pl_meaning.specs.Covered.{AlongFrom}
 use Rattle.pl_meaning.specs.Database.{Database}
 use Rattle.pl_meaning.specs.Operation.{apply_payload}
@@ -13,14 +14,14 @@ use Rattle.pl_meaning.specs.Opening.{opens}
 use Rattle.pl_meaning.specs.Trace.{Event, Committed, Said, text, last_commit}
 use Rattle.pl_meaning.proofs.Lent.{longer, after}
 use Rattle.pl_session.specs.Endings.{RunsAlong}
-use Rattle.pl_session.specs.Replies.{line_of, event_of}
+use Rattle.pl_session.specs.Replies.{lines_of, event_of}
 use Rattle.pl_session.specs.State.{Stores}
 use Rattle.pl_session.specs.Steps.{AllOpen, Idle}
 use Rattle.pl_session.specs.declared.reply.Reply.{Reply}
 use Rattle.pl_session.specs.declared.reply.Reply.TheVariants as reply
 use Rattle.pl_session.proofs.Opens.{leads_on, opens_by, spelled_by}
 
-module _ (a b : View) (keeper : Head) (payload : List ℕ) (reply : List ℕ) (db next : Database) (store : a.told → Stores a.may_leave keeper db) (done : apply_payload payload db ≡ Some next) (first : Runs a b (λ p c. (p ≡ a.printed) × CommittingPayload a keeper payload c)) where
+module _ (a b : View) (keeper : Head) (payload : List ℕ) (reply : List ℕ) (db next : Database) (store : a.told → Stores a keeper db) (done : apply_payload payload db ≡ Some next) (first : Runs a b (λ p c. (p ≡ a.printed) × CommittingPayload a keeper payload c)) where
   abbrev both : List Event
   both = Committed next ∷ Said reply ∷ []
 
@@ -37,10 +38,12 @@ module _ (a b : View) (keeper : Head) (payload : List ℕ) (reply : List ℕ) (d
       runs_on a b d _ _ (AlongFrom a.printed both db) commit_along (from_say reply b d result says) (λ told p c is. is)
       (λ told p c is. (is.0.0, is.0.2 ∙ ap (λ (l : List ℕ). l ++ is.0.0) (printed told), inr (inl (is.0.1, opens_to told c is.1))))
 
-pub answer_along : {T : Type 0} (a d : View) (r : Reply) (db : Database) (result : Result T Fault) → AllOpen a db → Says (line_of r) a d result → RunsAlong a d (event_of r ∷ []) db
-answer_along a d (reply.Done tag) db result opens_to says = run_weaker a d _ (AlongFrom a.printed (event_of (reply.Done tag) ∷ []) db) (from_say (line_of (reply.Done tag)) a d result says)
+pub answer_along : {T : Type 0} (a d : View) (r : Reply) (db : Database) (result : Result T Fault) → AllOpen a db → Says (lines_of r) a d result → RunsAlong a d (event_of r ∷ []) db
+answer_along a d (reply.Done tag) db result opens_to says = run_weaker a d _ (AlongFrom a.printed (event_of (reply.Done tag) ∷ []) db) (from_say (lines_of (reply.Done tag)) a d result says)
     (λ told p c is. (is.0.0, is.0.2, inl (is.0.1, opens_to told c is.1)))
-answer_along a d (reply.Fails state) db result opens_to says = run_weaker a d _ (AlongFrom a.printed (event_of (reply.Fails state) ∷ []) db) (from_say (line_of (reply.Fails state)) a d result says)
+answer_along a d (reply.Rows grid) db result opens_to says = run_weaker a d _ (AlongFrom a.printed (event_of (reply.Rows grid) ∷ []) db) (from_say (lines_of (reply.Rows grid)) a d result says)
+    (λ told p c is. (is.0.0, is.0.2, inl (is.0.1, opens_to told c is.1)))
+answer_along a d (reply.Fails state) db result opens_to says = run_weaker a d _ (AlongFrom a.printed (event_of (reply.Fails state) ∷ []) db) (from_say (lines_of (reply.Fails state)) a d result says)
     (λ told p c is. (is.0.0, is.0.2, inl (is.0.1, opens_to told c is.1)))
 
 pub nothing_along : (a : View) (events : List Event) (db : Database) → RunsAlong a a events db

@@ -6,11 +6,12 @@ use Rattle.pl_meaning.specs.Database.{Database}
 use Rattle.pl_meaning.specs.Meaning.{events, commits_or}
 use Rattle.pl_meaning.specs.Operation.{apply_payload}
 use Rattle.pl_meaning.specs.Replies.{error_line}
-use Rattle.pl_meaning.specs.Trace.{Event, Failed}
+use Rattle.pl_meaning.specs.Trace.{Event}
 use Rattle.pl_meaning.specs.declared.reading.Reading.{Reading}
+use Rattle.pl_session.specs.Replies.{event_of}
 use Rattle.pl_session.specs.Tables.{changed}
 use Rattle.pl_session.specs.declared.plan.Plan.{Plan}
-use Rattle.pl_session.specs.declared.plan.Plan.TheVariants.{Nothing, Fails, Tries}
+use Rattle.pl_session.specs.declared.plan.Plan.TheVariants.{Nothing, Answers, Tries}
 use Rattle.pl_session.specs.declared.tables.Change.{Change}
 
 -- the payload spells operations, which make this change
@@ -21,7 +22,7 @@ pub record Spells (payload : List ℕ) (change : Change) (db : Database) : Type 
 -- the plan gives these events
 abbrev pub Plans : List Event → Database → Plan → Type 0
 Plans trace db Nothing = trace ≡ []
-Plans trace db (Fails state) = trace ≡ Failed (error_line state) ∷ []
+Plans trace db (Answers reply) = trace ≡ event_of reply ∷ []
 Plans trace db (Tries payload change reply error) =
     (trace ≡ commits_or (tag_bytes reply) (error_line error) (changed change db)) × Spells payload change db
 

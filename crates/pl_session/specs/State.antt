@@ -3,7 +3,8 @@ use Rattle.std.specs.Prelude.{◌≡◌, List, [], None, Ok}
 use Rattle.pl_base.specs.Image.{Image}
 use Rattle.pl_disk.specs.Disk.{View}
 use Rattle.pl_keeper.specs.Batches.{Stored}
-use Rattle.pl_keeper.specs.Store.{Head, IsStore}
+use Rattle.pl_keeper.specs.Store.{IsStore}
+use Rattle.pl_keeper.specs.declared.head.Head.{Head}
 use Rattle.pl_meaning.specs.Database.{Database}
 use Rattle.pl_meaning.specs.Opening.{apply_batches, opens}
 use Rattle.pl_session.specs.Tables.{database_of}
@@ -13,10 +14,10 @@ use Rattle.pl_session.specs.declared.state.SessionState.{SessionState}
 abbrev pub database_in : SessionState → Database
 database_in state = database_of state.tables.list.items
 
--- every crash leaves a store of batches that lead to this database, and whose frames end at the keeper's place
-pub record Stores (may_leave : Image → Type 0) (keeper : Head) (db : Database) : Type 0 where
+-- nothing is unsettled, and the files are a store of batches that lead to this database, whose frames end at the keeper's place
+pub record Stores (v : View) (keeper : Head) (db : Database) : Type 0 where
   pub list : List Stored
-  pub store : IsStore may_leave keeper list
+  pub store : IsStore v keeper list
   pub leads : apply_batches list [] ≡ Ok db
 
 -- What a call of a session begins with, and what it leaves after Ok: the session is open, its host
@@ -26,4 +27,4 @@ pub record IsReady (v : View) (state : SessionState) : Type 0 where
   pub is_open : state.failed ≡ None
   pub attached : v.is_attached
   pub opens_to : v.told → (c : Image) → v.may_leave c → opens c ≡ Ok (database_in state)
-  pub store : v.told → Stores v.may_leave state.keeper (database_in state)
+  pub store : v.told → Stores v state.keeper (database_in state)

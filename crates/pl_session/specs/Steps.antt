@@ -1,7 +1,6 @@
 -- What the parts of a call do.
-use Rattle.std.specs.Prelude.{◌≡◌, [], List, Bool, Result, Ok, Err}
+use Rattle.std.specs.Prelude.{◌≡◌, ℕ, [], List, Bool, Option, Some, None, Result, Ok, Err}
 use Rattle.pl_base.specs.Image.{Image}
-use Rattle.pl_base.specs.declared.area.Area.{Area}
 use Rattle.pl_disk.specs.Disk.{View, Rises}
 use Rattle.pl_keeper.specs.Batches.{Stored}
 use Rattle.pl_meaning.specs.Database.{Database}
@@ -9,12 +8,10 @@ use Rattle.pl_meaning.specs.Opening.{apply_batches, opens}
 use Rattle.pl_meaning.specs.Trace.{Event, is_failed}
 use Rattle.pl_session.specs.Endings.{GoesOn}
 use Rattle.pl_session.specs.Tables.{database_of}
-use Rattle.pl_session.specs.declared.halt.StartFail.{StartFail}
-use Rattle.pl_session.specs.declared.halt.StartFail.TheVariants.{Disk as DiskFailed, Damaged, Memory as NoMemory}
 use Rattle.pl_session.specs.declared.halt.Stop.{Stop}
 use Rattle.pl_session.specs.declared.halt.Stop.TheVariants.{Disk, Say, Memory}
 use Rattle.pl_session.specs.declared.state.SessionState.{SessionState}
-use Rattle.pl_session.specs.declared.tables.Tables.{Tables}
+use Rattle.pl_session.specs.declared.tables.Table.{Table}
 
 -- nothing was done: nothing more is printed, and a crash leaves nothing new
 pub record Idle (old new : View) : Type 0 where
@@ -37,9 +34,7 @@ StepEnd old new before after events (Err why) = StepCause old new why
 abbrev pub AllOpen : View → Database → Type 0
 AllOpen v db = v.told → (c : Image) → v.may_leave c → opens c ≡ Ok db
 
--- the tables are what the batches lead to, and `Damaged` comes exactly at the first batch that doesn't apply
-abbrev pub IsFolded : Area → List Stored → Result Tables StartFail → Type 0
-IsFolded in_ list (Ok tables) = apply_batches list [] ≡ Ok (database_of tables.list.items)
-IsFolded in_ list (Err (Damaged area at)) = (area ≡ in_) × (apply_batches list [] ≡ Err at)
-IsFolded in_ list (Err DiskFailed) = ⊥
-IsFolded in_ list (Err NoMemory) = Unit {0}
+-- these batches lead to the tables; or the one at this place is the first that doesn't apply
+abbrev pub LeadsTo : List Stored → List Table → (stopped : Option ℕ) → Type 0
+LeadsTo list tables None = apply_batches list [] ≡ Ok (database_of tables)
+LeadsTo list tables (Some at) = apply_batches list [] ≡ Err at

@@ -1,5 +1,7 @@
 -- What the tables in memory stand for.
 use Rattle.std.specs.Prelude.{◌≡◌, List, map, Bool, true, false, Option, Some, None}
+use Rattle.pl_catalog.specs.Objects.{Catalogue}
+use Rattle.pl_meaning.specs.Catalogue.{catalogue_of}
 use Rattle.pl_meaning.specs.Database.{Database, Object, TableObject, Table as TableValue, integer_column}
 use Rattle.pl_meaning.specs.Operation.{apply, define_by}
 use Rattle.pl_session.specs.declared.tables.Change.{Change}
@@ -14,6 +16,10 @@ object_of table = TableObject (table_of table)
 
 abbrev pub database_of : List Table → Database
 database_of tables = map object_of tables
+
+-- the catalogue of the tables
+abbrev pub catalogue_in : List Table → Catalogue
+catalogue_in tables = catalogue_of (database_of tables)
 
 -- done, and the new value is the one wanted; or none is wanted, and the old one stays
 abbrev pub Becomes : {A : Type 0} → Bool → (old new : A) → (wanted : Option A) → Type 0

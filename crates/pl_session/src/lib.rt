@@ -2,7 +2,9 @@
 #![tactic(auto)]
 
 mod halt;
+mod opening;
 mod plan;
+mod query;
 mod reply;
 mod script;
 mod state;

@@ -7,8 +7,12 @@ ghost use Rattle.pl_meaning.specs.Database.{next_of};
 ghost use Rattle.pl_meaning.specs.Form.{number_in, table_by};
 ghost use Rattle.pl_meaning.specs.Meaning.{command_events, creates, inserts, inserts_at};
 ghost use Rattle.pl_session.specs.Plans.{Plans, IsPlan};
+ghost use Rattle.pl_session.specs.declared.plan.Plan.TheVariants as plan;
+ghost use Rattle.pl_session.specs.declared.reply.Reply.TheVariants as reply;
 ghost use Rattle.pl_session.specs.Tables.{database_of};
 
+use crate::query::select;
+use crate::reply::Reply;
 use crate::tables::{Change, Tables};
 use pl_base::{Bytes, List, Memory, Name, Op, State, Txt, Value};
 use pl_codec::encode;
@@ -22,8 +26,8 @@ use std::alloc::Global;
 pub enum Plan {
     /// There is no command.
     Nothing,
-    /// The error alone.
-    Fails(State),
+    /// The reply alone: nothing is changed.
+    Answers(Reply),
     /// The change is made, the payload that spells it committed, and then the reply given; or where
     /// it can't be made, the error.
     Tries {
@@ -34,6 +38,13 @@ pub enum Plan {
     },
 }
 
+// The error alone.
+fn fails(state: State) -> Plan
+    ensures { result ≡ plan.Answers (reply.Fails state) }
+{
+    Plan::Answers(Reply::Fails(state))
+}
+
 /// What a piece of a script asks for by what it is read as, over these tables.
 pub fn plan_of(alloc: Global, tables: &Tables, reading: Reading) -> Result<Plan, Memory>
     requires alike { MeansAlike reading }
@@ -41,7 +52,7 @@ pub fn plan_of(alloc: Global, tables: &Tables, reading: Reading) -> Result<Plan,
 {
     match reading {
         Reading::Nothing => Ok(Plan::Nothing),
-        Reading::Refused(state) => Ok(Plan::Fails(state)),
+        Reading::Refused(state) => Ok(fails(state)),
         Reading::Spelled(command) => plan_command(alloc, tables, command),
     }
 }
@@ -54,8 +65,8 @@ fn plan_command(alloc: Global, tables: &Tables, command: Command) -> Result<Plan
     match command {
         Command::Define { definition, source } => plan_create(alloc, tables, definition, source),
         Command::Insert(insert) => plan_insert(alloc, tables, &insert),
-        Command::Query(_)
-        | Command::Update(_)
+        Command::Query(query) => Ok(Plan::Answers(select(alloc, tables, &query)?)),
+        Command::Update(_)
         | Command::Delete(_)
         | Command::Do { .. }
         | Command::Call { .. }
@@ -65,7 +76,7 @@ fn plan_command(alloc: Global, tables: &Tables, command: Command) -> Result<Plan
         | Command::Rollback
         | Command::Savepoint(_)
         | Command::Release(_)
-        | Command::RollbackTo(_) => Ok(Plan::Fails(State::FEATURE_NOT_SUPPORTED)),
+        | Command::RollbackTo(_) => Ok(fails(State::FEATURE_NOT_SUPPORTED)),
     }
 }
 
@@ -82,7 +93,7 @@ fn plan_create(
         (database_of tables.now.list.items)) }
 {
     let Some(made) = table_by(&definition, source.as_bytes()) else {
-        return Ok(Plan::Fails(State::FEATURE_NOT_SUPPORTED));
+        return Ok(fails(State::FEATURE_NOT_SUPPORTED));
     };
     let op = Op::Define { text: source };
     let payload = encode(alloc, &op)?;
@@ -100,7 +111,7 @@ fn plan_insert(alloc: Global, tables: &Tables, insert: &Insert) -> Result<Plan, 
         (database_of tables.now.list.items)) }
 {
     let Some(number) = number_in(insert) else {
-        return Ok(Plan::Fails(State::FEATURE_NOT_SUPPORTED));
+        return Ok(fails(State::FEATURE_NOT_SUPPORTED));
     };
     plan_row(alloc, tables, insert.table, number)
 }
@@ -114,10 +125,10 @@ fn plan_row(alloc: Global, tables: &Tables, table: Name, number: i32) -> Result<
         (database_of tables.now.list.items)) }
 {
     let Some(id) = tables.next_of(table) else {
-        return Ok(Plan::Fails(State::UNDEFINED_TABLE));
+        return Ok(fails(State::UNDEFINED_TABLE));
     };
     if id == 0 || id >= 1 << 63 {
-        return Ok(Plan::Fails(State::PROGRAM_LIMIT_EXCEEDED));
+        return Ok(fails(State::PROGRAM_LIMIT_EXCEEDED));
     }
     let mut row = List::new(alloc);
     row.push(Value::Int(number))?;

@@ -1,36 +1,51 @@
 //! The lines that commands are answered with.
 
-ghost use Rattle.std.specs.Prelude.{◌≡◌, IfOk};
-ghost use Rattle.pl_session.specs.Replies.{line_of};
+ghost use Rattle.std.specs.Prelude.{◌≡◌, ◌∷◌, [], IfOk};
+ghost use Rattle.pl_meaning.specs.Trace.{is_failed};
+ghost use Rattle.pl_session.specs.Replies.{lines_of, event_of};
 
 use pl_base::{Bytes, Fail, Memory, Message, Name, Origin, Place, State};
-use pl_print::{Tag, fail, tag};
+use pl_print::{Grid, Tag, fail, grid, tag};
 use std::alloc::Global;
 
 /// The answer to a command.
-#[derive(Clone, Copy)]
+#[derive(Drop)]
 pub enum Reply {
     /// It is done.
     Done(Tag),
+    /// It gives these rows.
+    Rows(Grid),
     /// It fails with this state.
     Fails(State),
 }
 
 impl Reply {
-    /// The line with its newline.
-    pub fn line(self, alloc: Global) -> Result<Bytes, Memory>
-        ensures { IfOk result (λ line. line ≡ line_of self) }
+    /// Its lines, each with its newline.
+    pub fn lines(&self, alloc: Global) -> Result<Bytes, Memory>
+        ensures { IfOk result (λ lines. lines ≡ lines_of self.now) }
     {
         match self {
-            Reply::Done(done) => tag(alloc, &done),
-            Reply::Fails(state) => error_line(alloc, state),
+            Reply::Done(done) => tag(alloc, done),
+            Reply::Rows(rows) => grid(alloc, rows),
+            Reply::Fails(state) => error_line(alloc, *state),
+        }
+    }
+
+    /// Whether it is an error.
+    pub fn is_error(&self) -> bool
+        ensures { result ≡ is_failed (event_of self.now ∷ []) }
+    {
+        match self {
+            Reply::Done(_) => false,
+            Reply::Rows(_) => false,
+            Reply::Fails(_) => true,
         }
     }
 }
 
 // The error with the name of its condition.
 fn error_line(alloc: Global, state: State) -> Result<Bytes, Memory>
-    ensures { IfOk result (λ line. line ≡ line_of (Reply.Fails state)) }
+    ensures { IfOk result (λ line. line ≡ lines_of (Reply.Fails state)) }
 {
     let failed = Fail {
         state,

@@ -1,12 +1,11 @@
 //! A session: the database in memory, and the keeper of the store that holds it.
 
 ghost use Rattle.std.specs.Prelude.{true, ◌≡◌, ◌&&◌, ◌++◌, ◌∷◌, [], Some, None, Err, is_some, IfOk, IfErr, OnOk, IsErrOf};
-ghost use Rattle.pl_base.specs.Image.{Image, other};
+ghost use Rattle.pl_base.specs.Image.{other};
 ghost use Rattle.pl_base.specs.declared.area.Area.{Area};
 ghost use Rattle.pl_codec.specs.Reading.{operations_of};
-ghost use Rattle.pl_disk.specs.Disk.{Runs, Settled, Untouched};
+ghost use Rattle.pl_disk.specs.Disk.{Keeps, Runs, Settled, Untouched};
 ghost use Rattle.pl_keeper.specs.Batches.{Damage, spare_area};
-ghost use Rattle.pl_keeper.specs.Store.{all_stored};
 ghost use Rattle.pl_meaning.specs.Computed.{MeansAlike};
 ghost use Rattle.pl_meaning.specs.Database.{Database};
 ghost use Rattle.pl_meaning.specs.Meaning.{events, commits_or};
@@ -17,24 +16,25 @@ ghost use Rattle.pl_meaning.specs.Trace.{Said, Committed, is_failed};
 ghost use Rattle.pl_print.specs.Tags.{tag_bytes};
 ghost use Rattle.pl_session.specs.Endings.{OfTrace, RunsAlong, GoesOn, StopsBy, HasCause, outcome_of, ended_of};
 ghost use Rattle.pl_session.specs.Plans.{Spells};
-ghost use Rattle.pl_session.specs.Replies.{line_of, event_of};
+ghost use Rattle.pl_session.specs.Replies.{lines_of, event_of};
 ghost use Rattle.pl_session.specs.Spare.{KeepsArea, spare_in};
 ghost use Rattle.pl_session.specs.Starts.{StartPair, OpensSame, IsStarted, HasStartCause};
 ghost use Rattle.pl_session.specs.State.{database_in, Stores, IsReady};
-ghost use Rattle.pl_session.specs.Steps.{AllOpen, StepCause, StepEnd, IsFolded};
+ghost use Rattle.pl_session.specs.Steps.{AllOpen, StepCause, StepEnd};
 ghost use Rattle.pl_session.specs.Tables.{changed};
 ghost use Rattle.pl_session.specs.declared.halt.Halt.TheVariants.{Closed};
 ghost use Rattle.pl_session.specs.declared.halt.Stop.{Stop};
 
 use crate::halt::{Ended, Halt, Outcome, StartFail, Stop};
+use crate::opening::fold;
 use crate::plan::{Plan, plan_of};
 use crate::reply::Reply;
 use crate::script::read_next;
 use crate::tables::{Change, Tables};
-use pl_base::{Area, State};
+use pl_base::State;
 use pl_disk::Host;
 use pl_frames::FrameFail;
-use pl_keeper::{Batch, Keeper};
+use pl_keeper::Keeper;
 use pl_meaning::Reading;
 use pl_print::Tag;
 use std::alloc::Global;
@@ -48,34 +48,19 @@ pub struct SessionState {
     failed: Option<Stop>,
 }
 
-// The tables after these batches of an area.
-fn fold(alloc: Global, area: Area, batches: Vec<Batch>) -> Result<Tables, StartFail>
-    ensures { IsFolded area (all_stored batches.items) result }
-{
-    let mut tables = Tables::new(alloc);
-    for batch in batches {
-        let Batch { at, ops } = batch;
-        if !tables.apply_all(ops)? {
-            return Err(StartFail::Damaged { area, at });
-        }
-    }
-    Ok(tables)
-}
-
 // Prints a reply.
 fn answer<H: Host>(alloc: Global, host: &mut H, reply: Reply) -> Result<(), Stop>
     ensures moments { (db : Database) → AllOpen (H.view host.old) db
         → RunsAlong (H.view host.old) (H.view host.new) (event_of reply ∷ []) db }
-    ensures images { (H.view host.old).told → (c : Image) → (H.view host.new).may_leave c
-        → (H.view host.old).may_leave c }
+    ensures images { (H.view host.old).told → Keeps (H.view host.old) (H.view host.new) }
     ensures printed { (H.view host.old).told
-        → OnOk result ((H.view host.new).printed ≡ (H.view host.old).printed ++ line_of reply) }
+        → OnOk result ((H.view host.new).printed ≡ (H.view host.old).printed ++ lines_of reply) }
     ensures cause { IfErr result (StepCause (H.view host.old) (H.view host.new)) }
     ensures files { (H.view host.old).told → (area : Area)
         → KeepsArea area (H.view host.old) (H.view host.new) }
 {
-    let line = reply.line(alloc)?;
-    match host.say(line.as_slice()) {
+    let lines = reply.lines(alloc)?;
+    match host.say(lines.as_slice()) {
         Ok(()) => Ok(()),
         Err(_) => Err(Stop::Say),
     }
@@ -92,16 +77,16 @@ fn commit_then_answer<H: Host>(
     requires attached { (H.view host.old).is_attached }
     requires spelling { is_some (operations_of payload.now) ≡ true }
     requires store { (H.view host.old).told
-        → (db : Database) × Stores (H.view host.old).may_leave keeper.old db }
+        → (db : Database) × Stores (H.view host.old) keeper.old db }
     ensures moments { (db next : Database)
-        → ((H.view host.old).told → Stores (H.view host.old).may_leave keeper.old db)
+        → ((H.view host.old).told → Stores (H.view host.old) keeper.old db)
         → apply_payload payload.now db ≡ Some next
         → RunsAlong (H.view host.old) (H.view host.new)
         (Committed next ∷ Said (tag_bytes reply) ∷ []) db }
     ensures store { (H.view host.old).told → OnOk result ((db next : Database)
-        → Stores (H.view host.old).may_leave keeper.old db
+        → Stores (H.view host.old) keeper.old db
         → apply_payload payload.now db ≡ Some next
-        → Stores (H.view host.new).may_leave keeper.new next) }
+        → Stores (H.view host.new) keeper.new next) }
     ensures printed { (H.view host.old).told
         → OnOk result ((H.view host.new).printed ≡ (H.view host.old).printed ++ tag_bytes reply) }
     ensures cause { IfErr result (StepCause (H.view host.old) (H.view host.new)) }
@@ -109,7 +94,7 @@ fn commit_then_answer<H: Host>(
     ensures spare { (H.view host.old).told
         → KeepsArea (other keeper.old.area) (H.view host.old) (H.view host.new) }
 {
-    let line = Reply::Done(reply).line(alloc)?;
+    let line = Reply::Done(reply).lines(alloc)?;
     match keeper.commit_payload(alloc, host, payload) {
         Ok(()) => {}
         Err(FrameFail::Fault) => return Err(Stop::Disk),
@@ -189,8 +174,8 @@ impl SessionState {
         ensures spare { (H.view host.old).told → KeepsArea (spare_area (H.view host.old).seen)
             (H.view host.old) (H.view host.new) }
     {
-        let (keeper, batches) = Keeper::recover(alloc, host)?;
-        let tables = fold(alloc, keeper.head().0, batches)?;
+        let reader = Keeper::recover(alloc, host)?;
+        let (tables, keeper) = fold(alloc, host, reader)?;
         Ok(SessionState {
             alloc,
             tables,
@@ -220,9 +205,10 @@ impl SessionState {
     {
         match plan_of(self.alloc, &self.tables, reading)? {
             Plan::Nothing => Ok(false),
-            Plan::Fails(state) => {
-                answer(self.alloc, host, Reply::Fails(state))?;
-                Ok(true)
+            Plan::Answers(reply) => {
+                let is_error = reply.is_error();
+                answer(self.alloc, host, reply)?;
+                Ok(is_error)
             }
             Plan::Tries {
                 payload,

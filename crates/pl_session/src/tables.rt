@@ -1,18 +1,25 @@
 //! The database in memory.
 
 ghost use Rattle.std.specs.Prelude.{◌≡◌, ◌<◌, ◌^◌, ◌&&◌, ◌||◌, [], length, IfOk, nat_eq, nat_le, nat_lt};
+ghost use Rattle.std.specs.Coded.{Coded-set};
 ghost use Rattle.std.specs.List.{position};
 ghost use Rattle.std.specs.Cmp.Lexicographic.{pointwise};
+ghost use Rattle.pl_meaning.specs.Catalogue as catalogue;
 ghost use Rattle.pl_meaning.specs.Database as database;
-ghost use Rattle.pl_meaning.specs.Database.{fits, has_row, integer_column, define, next_of};
+ghost use Rattle.pl_meaning.specs.Database.{empty_table, fits, has_row, integer_column, define, next_of};
 ghost use Rattle.pl_meaning.specs.Database.{put_in, put, remove_in, remove, raise_in, raise};
 ghost use Rattle.pl_base.specs.declared.operation.Op.TheVariants.{Define, Put};
 ghost use Rattle.pl_meaning.specs.Operation.{apply, apply_all};
-ghost use Rattle.pl_session.specs.Tables.{table_of, database_of, changed, Becomes, AllApply};
+ghost use Rattle.pl_meaning.specs.Selection.{rows_in, table_rows};
+ghost use Rattle.pl_value.specs.Frames.{rows_of};
+ghost use Rattle.pl_session.specs.Tables.{table_of, object_of, database_of, catalogue_in};
+ghost use Rattle.pl_session.specs.Tables.{changed, Becomes, AllApply};
 
-use pl_base::{Cells, Memory, Name, Op, Value};
+use pl_base::{Cells, List, Memory, Name, Op, Txt, Ty, Value};
+use pl_catalog::{Catalog, Column, Object, TableDef};
 use pl_meaning::{IntegerTable, read_definition};
-use std::alloc::Global;
+use pl_value::Lent;
+use std::alloc::{AllocError, Global};
 use std::collections::BTreeMap;
 
 /// The most rows of a table.
@@ -32,8 +39,10 @@ impl Table {
     // Whether the row was put there: it fits the column, and isn't one too many.
     fn put(&mut self, id: u64, row: Cells) -> Result<bool, Memory>
         requires { id < 2 ^ 63 }
-        ensures { IfOk result (λ done. Becomes done (table_of self.old) (table_of self.new)
+        ensures done { IfOk result (λ done. Becomes done (table_of self.old) (table_of self.new)
             (put_in id row (table_of self.old))) }
+        ensures entry { catalogue.entry_of (object_of self.new)
+            ≡ catalogue.entry_of (object_of self.old) }
     {
         if !is_one_integer(row.as_slice()) {
             return Ok(false);
@@ -48,8 +57,10 @@ impl Table {
 
     // Whether the row of this id was removed: it was there.
     fn remove(&mut self, id: u64) -> bool
-        ensures { Becomes result (table_of self.old) (table_of self.new)
+        ensures done { Becomes result (table_of self.old) (table_of self.new)
             (remove_in id (table_of self.old)) }
+        ensures entry { catalogue.entry_of (object_of self.new)
+            ≡ catalogue.entry_of (object_of self.old) }
     {
         if !self.rows.contains_key(&id) {
             return false;
@@ -58,10 +69,25 @@ impl Table {
         true
     }
 
+    // Its rows, by their ids. None is copied.
+    fn rows(&self, alloc: Global) -> Result<Vec<Lent<'_>>, AllocError>
+        ensures { IfOk result (λ rows. rows_of rows.items ≡ rows_in (object_of self.now)) }
+    {
+        let mut rows = Vec::new(alloc);
+        for row in self.rows.values() {
+            rows.push(Lent {
+                cells: row.as_slice(),
+            })?;
+        }
+        Ok(rows)
+    }
+
     // Whether this is the next id now: it can be.
     fn raise(&mut self, next: u64) -> bool
-        ensures { Becomes result (table_of self.old) (table_of self.new)
+        ensures done { Becomes result (table_of self.old) (table_of self.new)
             (raise_in next (table_of self.old)) }
+        ensures entry { catalogue.entry_of (object_of self.new)
+            ≡ catalogue.entry_of (object_of self.old) }
     {
         if !can_be_next(self.next, next) {
             return false;
@@ -111,11 +137,33 @@ pub enum Change {
     Apply(Op),
 }
 
-/// The tables in the order in which they were made.
+// What the catalogue has of a table.
+fn entry_of(alloc: Global, name: Name, column: Name) -> Result<Object, AllocError>
+    ensures { IfOk result (λ entry.
+        entry ≡ catalogue.entry_of (empty_table name (integer_column column))) }
+{
+    let mut columns = List::new(alloc);
+    columns.push(Column {
+        name: column,
+        ty: Ty::Int,
+        is_not_null: false,
+        default: None,
+    })?;
+    Ok(Object::Table(TableDef {
+        name,
+        text: Txt::from_vec(Vec::new(alloc)),
+        columns,
+        rules: List::new(alloc),
+    }))
+}
+
+/// The tables in the order in which they were made, and the catalogue of them.
 #[derive(Drop)]
 pub struct Tables {
     alloc: Global,
     list: Vec<Table>,
+    catalog: Catalog,
+    ghost in_step: { catalog ≡ catalogue_in list.items } by { Coded-set catalog-code catalog _ },
 }
 
 impl Tables {
@@ -126,7 +174,15 @@ impl Tables {
         Tables {
             alloc,
             list: Vec::new(alloc),
+            catalog: Catalog::new(alloc),
         }
+    }
+
+    /// The catalogue of the tables.
+    pub fn catalog(&self) -> &Catalog
+        ensures { result.now ≡ catalogue_in self.now.list.items }
+    {
+        &self.catalog
     }
 
     // Whether a row was put into the table of this name.
@@ -173,13 +229,20 @@ impl Tables {
         let None = place_of(&self.list, name) else {
             return Ok(false);
         };
-        self.list.push(Table {
-            name,
-            column,
-            rows: BTreeMap::new(self.alloc),
-            next: 1,
-        })?;
-        Ok(true)
+        let entry = entry_of(self.alloc, name, column)?;
+        self.list.reserve(1)?;
+        match self.catalog.add(entry) {
+            Ok(()) => {
+                self.list.push_reserved(Table {
+                    name,
+                    column,
+                    rows: BTreeMap::new(self.alloc),
+                    next: 1,
+                });
+                Ok(true)
+            }
+            Err(_) => Err(Memory),
+        }
     }
 
     // Whether the table of a definition was made.
@@ -244,6 +307,18 @@ impl Tables {
         }
     }
 
+    /// The rows of the table of this name, by their ids; none where there is no such table. None is
+    /// copied.
+    pub fn rows(&self, alloc: Global, name: Name) -> Result<Vec<Lent<'_>>, AllocError>
+        ensures { IfOk result (λ rows.
+            rows_of rows.items ≡ table_rows name (database_of self.now.list.items)) }
+    {
+        let Some(at) = place_of(&self.list, name) else {
+            return Ok(Vec::new(alloc));
+        };
+        self.list[at].rows(alloc)
+    }
+
     /// The next row id of the table of this name.
     pub fn next_of(&self, name: Name) -> Option<u64>
         ensures { result ≡ next_of name (database_of self.now.list.items) }
@@ -252,5 +327,13 @@ impl Tables {
             return None;
         };
         Some(self.list[at].next)
+    }
+}
+
+impl pl_query::Tables for Tables {
+    ghost table = { λ tables name. table_rows name (database_of tables.list.items) };
+
+    fn read<'t>(&'t self, alloc: Global, name: Name) -> Result<Vec<Lent<'t>>, AllocError> {
+        self.rows(alloc, name)
     }
 }

@@ -17,7 +17,7 @@ returns-in-Ok-say-clause-moments g c db next store done =
     let b = g.H.Disk.view c.commit_payload.new.disk in
     let line : c.as_slice.result.now ≡ tag_bytes c.args.reply = c.as_slice.ensures ∙ c.in_ok-line.ensures in
     said_after a b c.args.keeper.now c.args.payload.now (tag_bytes c.args.reply) db next store done c.commit_payload.ensures.writes.moments _ c.say.result c.commit_payload.ensures.writes.printed
-    (λ told. stores_open b.may_leave c.commit_payload.new.self next (stores_on a b c.args.keeper.now c.commit_payload.new.self c.args.payload.now db next (c.in-Ok.ensures.committed told) (store told) done))
+    (λ told. stores_open b c.commit_payload.new.self next (stores_on a b c.args.keeper.now c.commit_payload.new.self c.args.payload.now db next (c.in-Ok.ensures.committed told) (store told) done))
     (subst (λ (l : List ℕ). Says l b (g.H.Disk.view c.say.new.self) c.say.result) line c.say.ensures)
 
 pub returns-in-Ok-say-clause-store : goal.returns-in-Ok-say-clause-store
@@ -25,7 +25,7 @@ returns-in-Ok-say-clause-store g c told db next stores done =
     let a = g.H.Disk.view c.args.host.now in
     let b = g.H.Disk.view c.commit_payload.new.disk in
     let d = g.H.Disk.view c.say.new.self in
-    stores_still b.may_leave d.may_leave c.commit_payload.new.self next (c.say.ensures.images (c.commit_payload.ensures.writes.moments.continues.told told)).crash
+    stores_still b d c.commit_payload.new.self next (c.say.ensures.images (c.commit_payload.ensures.writes.moments.continues.told told))
     (stores_on a b c.args.keeper.now c.commit_payload.new.self c.args.payload.now db next (c.in-Ok.ensures.committed told) stores done)
 
 pub returns-clause-moments : goal.returns-clause-moments
@@ -34,7 +34,7 @@ returns-clause-moments g c db next store done =
     let b = g.H.Disk.view c.commit_payload.new.disk in
     let line : c.as_slice.result.now ≡ tag_bytes c.args.reply = c.as_slice.ensures ∙ c.in_ok-line.ensures in
     said_after a b c.args.keeper.now c.args.payload.now (tag_bytes c.args.reply) db next store done c.commit_payload.ensures.writes.moments _ c.say.result c.commit_payload.ensures.writes.printed
-    (λ told. stores_open b.may_leave c.commit_payload.new.self next (stores_on a b c.args.keeper.now c.commit_payload.new.self c.args.payload.now db next (c.in-Ok.ensures.committed told) (store told) done))
+    (λ told. stores_open b c.commit_payload.new.self next (stores_on a b c.args.keeper.now c.commit_payload.new.self c.args.payload.now db next (c.in-Ok.ensures.committed told) (store told) done))
     (subst (λ (l : List ℕ). Says l b (g.H.Disk.view c.say.new.self) c.say.result) line c.say.ensures)
 
 pub returns-in-Err-Fault-clause-spare : goal.returns-in-Err-Fault-clause-spare

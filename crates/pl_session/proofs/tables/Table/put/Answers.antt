@@ -5,8 +5,8 @@ use Rattle.pl_session.specs.Tables.{table_of}
 use Rattle.pl_session.proofs.Named.{put_done}
 use Rattle.pl_session.proofs.tables.Table.put.Goals as goal
 
-pub returns : goal.returns
-returns c =
+pub returns-clause-done : goal.returns-clause-done
+returns-clause-done c =
     let t = c.args.self.now in
     let column = integer_column t.column in
     let fit : fits column c.args.row ≡ true = ap (λ (r : List Value). fits column r) (sym c.as_slice.ensures) ∙ sym (c.is_one_integer.ensures t.column) ∙ c.if-not-is_one_integer.false in
