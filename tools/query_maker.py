@@ -1,8 +1,9 @@
 """Random queries of the grammar that plpg reads, over tables of one column.
 
 What the server is known to reply to otherwise isn't made (docs/DECISIONS.md): literals alone as an operand of IN and
-of BETWEEN, casts to the own type, keys that are the front of a chain, constants as keys, aggregates over columns of
-outer queries alone, a query that repeats a key, and LIMIT of rows that have no whole order.
+of BETWEEN, casts to the own type, keys that are the front of a chain, constants as keys, one query in brackets of its
+own behind IN, aggregates over columns of outer queries alone, a query that repeats a key, and LIMIT of rows that have
+no whole order.
 """
 import dataclasses
 import random
@@ -358,7 +359,9 @@ class Maker:
                 other = Part(of, "'1'", closed=True, literal=True)
             return Part(BOOLEAN, "{} " + self.choose(COMPARISONS) + " {}", (one, other), known=(0,))
         if kind == "in":
-            parts = (one, other, *[self.expression(of, depth - 1) for _ in range(self.choose(0, 1, 2))])
+            # (one query in its own brackets would be what IN looks through there)
+            more = max(self.choose(0, 1, 2), isinstance(other, Scalar))
+            parts = (one, other, *[self.expression(of, depth - 1) for _ in range(more)])
             return Part(BOOLEAN, f"{{}} {no}IN ({', '.join(['{:open}'] * (len(parts) - 1))})", parts, known=(0,))
         if kind == "in_query":
             return Part(BOOLEAN, f"{{}} {no}IN ({{}})", (one, self.some_query([of], depth - 1)), known=(0,))
