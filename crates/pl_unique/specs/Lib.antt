@@ -1,2 +1,4 @@
 pub mod Key
 pub mod Numbered
+pub mod RowKeys
+pub mod RowKeyLaws

@@ -4,6 +4,8 @@
 mod key;
 mod key_map;
 mod known;
+mod row_keys;
 
 pub use key::{Letters, Part, key_of};
 pub use key_map::KeyMap;
+pub use row_keys::{Key, KeyFail, change_keys, forget_keys, new_keys, undo_keys};
