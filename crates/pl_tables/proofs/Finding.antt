@@ -14,7 +14,7 @@ use Rattle.pl_tables.specs.declared.table.TableFail.{TableFail}
 use Rattle.pl_tables.specs.declared.table.TableFail.TheVariants as fail
 use Rattle.pl_tables.specs.Rows.{Content, is_full, row_at}
 use Rattle.pl_tables.specs.Named.{Named, named, content_named, is_full_named, next_named, on_table, without_table, row_named, rows_of}
-use Rattle.pl_tables.specs.Places.{is_full_in, next_in, kept, there, is_at, with_place, undone_place, row_in, gone, undo_step}
+use Rattle.pl_tables.specs.Places.{content_in, is_full_in, next_in, kept, there, is_at, with_place, undone_place, row_in, gone, undo_step}
 
 no_place : (n m : ℕ) → (let o : Option ℕ = cond (nat_lt n m) (Some n) None in o ≡ None) → m ≤ n
 no_place n m is = grind (arith, nat_tests)
@@ -176,6 +176,9 @@ next_found name ps at q is has = ap (option_map (λ (c : Content). c.next)) (is_
 
 pub full_found : (name : List ℕ) (ps : List Place) (at : ℕ) (q : Place) → position (is_at name) ps ≡ Some at → slice_get ps at ≡ Some q → is_full_named name (there ps) ≡ is_full_in (slice_get ps at)
 full_found name ps at q is has = ap (option_map is_full) (is_found name ps at q is has) ∙ sym (ap is_full_in has)
+
+pub content_found : (name : List ℕ) (ps : List Place) (at : ℕ) (q : Place) → position (is_at name) ps ≡ Some at → slice_get ps at ≡ Some q → content_named name (there ps) ≡ content_in (slice_get ps at)
+content_found name ps at q is has = is_found name ps at q is has ∙ sym (ap content_in has)
 
 pub row_absent : (name : List ℕ) (id : ℕ) (ps : List Place) → position (is_at name) ps ≡ None → row_named name id (there ps) ≡ None
 row_absent name id ps is = ap (λ (o : Option Content). row_at id (rows_of o)) (not_there name ps is)

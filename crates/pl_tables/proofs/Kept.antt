@@ -1,21 +1,20 @@
--- What a table keeps, before a change and after it.
+-- What a heap keeps, before a change and after it.
 use Rattle.std.proofs.Common.{◌≡◌, ◌-◌, ◌+◌, ℕ, List, [], ◌∷◌, ◌++◌, Option, Some, length, take, sym, ap, subst, ◌∙◌, arith}
 use Rattle.std.specs.List.{AllByRecursion}
 use Rattle.pl_base.specs.declared.value.Value.{Value}
-use Rattle.pl_history.specs.History.{back, changed, history, past_of, seen_as}
-use Rattle.pl_history.specs.HistoryLaws.{all_more, all_less, past_more, history_changed, history_back, seen_changed, seen_back, before_last}
+use Rattle.pl_history.specs.History.{back, changed, history, past_of}
+use Rattle.pl_history.specs.HistoryLaws.{all_more, all_less, past_more, history_changed, history_back, before_last}
 use Rattle.pl_tables.specs.declared.slots.Slot.{Slot}
-use Rattle.pl_tables.specs.declared.table.Change.{Change}
-use Rattle.pl_tables.specs.declared.table.Change.TheVariants.{Added, Changed}
+use Rattle.pl_tables.specs.declared.heap.Change.{Change}
+use Rattle.pl_tables.specs.declared.heap.Change.TheVariants.{Added, Changed}
 use Rattle.pl_tables.specs.Slots.{row_of, with_row}
-use Rattle.pl_tables.specs.Undo.{Kept, kept, content, undo_one, IsInOrder}
+use Rattle.pl_tables.specs.Undo.{Kept, kept, undo_one, IsInOrder}
 use Rattle.pl_tables.proofs.Living.{with_old}
 
 -- a change was made
 module _ (cs all : List Change) (c : Change) (old new : Kept) (is : all ≡ cs ++ c ∷ []) (undone : undo_one c new ≡ old) where
-  pub gone_on : seen_as content (history undo_one all new) ≡ changed (content new) (seen_as content (history undo_one cs old))
-  gone_on = ap (λ (l : List Change). seen_as content (history undo_one l new)) is
-      ∙ (ap (seen_as content) (history_changed undo_one cs c old new undone) ∙ seen_changed content new (history undo_one cs old))
+  pub gone_on : history undo_one all new ≡ changed new (history undo_one cs old)
+  gone_on = ap (λ (l : List Change). history undo_one l new) is ∙ history_changed undo_one cs c old new undone
 
   pub ordered_on : AllByRecursion IsInOrder (past_of undo_one cs old) → IsInOrder old → AllByRecursion IsInOrder (past_of undo_one all new)
   ordered_on h o =
@@ -25,11 +24,10 @@ module _ (cs all : List Change) (c : Change) (old new : Kept) (is : all ≡ cs +
 
 -- a change is undone
 module _ (cs all : List Change) (c : Change) (old : Kept) (is : all ≡ cs ++ c ∷ []) where
-  pub gone_back : (new : Kept) → new ≡ undo_one c old → seen_as content (history undo_one cs new) ≡ back (seen_as content (history undo_one all old))
+  pub gone_back : (new : Kept) → new ≡ undo_one c old → history undo_one cs new ≡ back (history undo_one all old)
   gone_back new e =
-      ap (λ (k : Kept). seen_as content (history undo_one cs k)) e
-      ∙ (ap (seen_as content) (history_back undo_one cs c old ∙ ap (λ (l : List Change). back (history undo_one l old)) (sym is))
-      ∙ seen_back content (history undo_one all old))
+      ap (λ (k : Kept). history undo_one cs k) e
+      ∙ (history_back undo_one cs c old ∙ ap (λ (l : List Change). back (history undo_one l old)) (sym is))
 
   pub ordered_back : (new : Kept) → new ≡ undo_one c old → AllByRecursion IsInOrder (past_of undo_one all old)
       → IsInOrder new × AllByRecursion IsInOrder (past_of undo_one cs new)

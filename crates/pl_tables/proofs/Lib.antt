@@ -1,3 +1,4 @@
 pub mod Finding
 pub mod Living
 pub mod Kept
+pub mod Steps

@@ -207,3 +207,31 @@ count_popped ss s = ap (λ (xs : List (ℕ × List Value)). length xs) (live_app
 pub not_some : (o : Option (List Value)) → IsSome o → o ≡ None → ⊥
 not_some None h e = grind (arith, h)
 not_some (Some row) h e = absurd cc
+
+-- a place that has a row
+pub place_within : (ss : List Slot) (at : ℕ) → IsSome (row_of ss at) → at < length ss
+place_within [] at some = absurd (not_some (row_of [] at) some refl)
+place_within (s ∷ ss) zero some = omega arith
+place_within (s ∷ ss) (suc at) some = let h = place_within ss at some in omega (arith, h)
+
+some_before : (id : ℕ) (row : Option (List Value)) (rows : List (ℕ × List Value)) → IsSome row → 1 ≤ length (before id row rows)
+some_before id None rows some = absurd (not_some None some refl)
+some_before id (Some row) rows some = omega arith
+
+more_before : (id : ℕ) (row : Option (List Value)) (rows : List (ℕ × List Value)) → length rows ≤ length (before id row rows)
+more_before id None rows = omega arith
+more_before id (Some row) rows = omega arith
+
+pub some_live : (ss : List Slot) (at : ℕ) → IsSome (row_of ss at) → 1 ≤ length (live ss)
+some_live [] at some = absurd (not_some (row_of [] at) some refl)
+some_live (s ∷ ss) zero some = some_before s.id s.row (live ss) some
+some_live (s ∷ ss) (suc at) some =
+    let h = some_live ss at some in
+    let m = more_before s.id s.row (live ss) in
+    omega (arith, h, m)
+
+-- how many rows there are when one has come in the place of another
+pub count_put : (ss : List Slot) (at : ℕ) (old : List Value) (row : Option (List Value)) → row_of ss at ≡ Some old
+    → length (live (with_row ss at row)) + 1 ≡ length (live ss) + length (before 0 row [])
+count_put ss at old None has = let n = count_emptied ss at old has in omega (arith, n)
+count_put ss at old (Some row) has = let n = count_swapped ss at old row has in omega (arith, n)

@@ -3,7 +3,7 @@ use Rattle.std.specs.Prelude.{ℕ, Bool, nat_eq, if◌then◌else◌, List, [], 
 use Rattle.std.specs.Prelude.{option_map}
 use Rattle.std.specs.Cmp.Lexicographic.{pointwise}
 use Rattle.pl_base.specs.declared.value.Value.{Value}
-use Rattle.pl_tables.specs.Rows.{Content, is_full, row_at}
+use Rattle.pl_tables.specs.Rows.{Content, is_full, row_at, Holds}
 
 pub record Named : Type 0 where
   pub name : List ℕ
@@ -21,6 +21,11 @@ content_named name (t ∷ ts) =
 -- the id that the next new row of the table of this name gets
 abbrev pub next_named : List ℕ → List Named → Option ℕ
 next_named name ts = option_map (λ (c : Content). c.next) (content_named name ts)
+
+-- the row of this id has a key of this row, where there is a table
+abbrev pub HoldsIn : List Value → ℕ → Option Content → Type 0
+HoldsIn row id None = ⊥
+HoldsIn row id (Some c) = Holds row c id
 
 -- whether the table of this name is full
 abbrev pub is_full_named : List ℕ → List Named → Option Bool

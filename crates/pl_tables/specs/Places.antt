@@ -8,7 +8,7 @@ use Rattle.pl_tables.specs.declared.tables.Place.{Place}
 use Rattle.pl_tables.specs.declared.tables.Step.{Step}
 use Rattle.pl_tables.specs.declared.tables.Step.TheVariants.{Created, Dropped, Changed}
 use Rattle.pl_tables.specs.Named.{Named, named}
-use Rattle.pl_tables.specs.Rows.{inserted, is_full, removed, replaced, row_at}
+use Rattle.pl_tables.specs.Rows.{Content, inserted, is_full, removed, replaced, row_at}
 
 abbrev pub kept : Bool → Named → List Named → List Named
 kept is_there t ts = if is_there then t ∷ ts else ts
@@ -44,6 +44,10 @@ with_remove id p =
 abbrev pub row_in : ℕ → Option Place → Option (List Value)
 row_in id None = None
 row_in id (Some p) = row_at id p.table.current.rows
+
+-- what the table at the place holds
+abbrev pub content_in : Option Place → Option Content
+content_in place = option_map (λ (p : Place). p.table.current) place
 
 -- the next id of the table at the place, and whether it is full
 abbrev pub next_in : Option Place → Option ℕ

@@ -1,8 +1,13 @@
 -- What undoing brings back.
-use Rattle.std.specs.Prelude.{ℕ, ◌-◌, List, Some, length, take}
+use Rattle.std.specs.Prelude.{◌≡◌, ℕ, ◌+◌, ◌-◌, ◌++◌, List, [], ◌∷◌, Option, Some, length, map, take}
+use Rattle.pl_base.specs.declared.value.Value.{Value}
+use Rattle.pl_history.specs.History.{History, seen_as}
+use Rattle.pl_unique.specs.declared.key.Part.{Part}
+use Rattle.pl_unique.specs.declared.row_keys.Key.{Key}
+use Rattle.pl_unique.specs.RowKeys.{key_given}
 use Rattle.pl_tables.specs.declared.slots.Slot.{Slot}
-use Rattle.pl_tables.specs.declared.table.Change.{Change}
-use Rattle.pl_tables.specs.declared.table.Change.TheVariants.{Added, Changed}
+use Rattle.pl_tables.specs.declared.heap.Change.{Change}
+use Rattle.pl_tables.specs.declared.heap.Change.TheVariants.{Added, Changed}
 use Rattle.pl_tables.specs.Rows.{Content}
 use Rattle.pl_tables.specs.Slots.{live, with_row, Rising}
 
@@ -14,13 +19,30 @@ pub record Kept : Type 0 where
 abbrev pub kept : List Slot → ℕ → Kept
 kept slots next = record { slots = slots; next = next }
 
-abbrev pub content : Kept → Content
-content k = record { next = k.next; rows = live k.slots }
+-- with these keys
+abbrev pub content : List (List ℕ) → Kept → Content
+content keys k = record { next = k.next; rows = live k.slots; keys = keys }
 
 abbrev pub undo_one : Change → Kept → Kept
 undo_one Added k = record { slots = take (length k.slots - 1) k.slots; next = k.next - 1 }
 undo_one (Changed at row) k = record { slots = with_row k.slots at (Some row); next = k.next }
 
+-- a row more
+abbrev pub with_slot : List Value → Kept → Kept
+with_slot row k = kept (k.slots ++ (record { id = k.next; row = Some row }) ∷ []) (k.next + 1)
+
+-- another row at this place, or none
+abbrev pub with_row_at : ℕ → Option (List Value) → Kept → Kept
+with_row_at at row k = kept (with_row k.slots at row) k.next
+
 -- the ids rise, and the next one is greater
 abbrev pub IsInOrder : Kept → Type 0
 IsInOrder k = Rising 0 k.slots k.next
+
+-- what these columns hold in each slot
+abbrev pub slot_keys : List ℕ → Kept → List (Option (List Part))
+slot_keys columns k = map (λ (s : Slot). key_given columns s.row) k.slots
+
+-- the key is that of the slots, at each moment
+abbrev pub InStep : History Kept → Key → Type 0
+InStep h k = k.at ≡ seen_as (slot_keys k.columns.items) h

@@ -1,6 +1,7 @@
 //! Tables: their rows by row id, and the undoing of what was changed.
 #![tactic(auto)]
 
+mod heap;
 mod slots;
 mod table;
 mod tables;

@@ -1,14 +1,18 @@
 //! A table.
 
-ghost use Rattle.std.specs.Prelude.{◌≡◌, ◌↔◌, [], Err, IsTrue, IsSome, false, length};
-ghost use Rattle.std.specs.Prelude.{IfOk, OnOk, OnErr, option_copied};
+ghost use Rattle.std.specs.Prelude.{◌≡◌, ◌≢◌, ◌<◌, ◌↔◌, [], Some, Err, IsTrue, IsSome, length};
+ghost use Rattle.std.specs.Prelude.{slice_get, IfOk, OnOk, OnErr, option_and_then, option_copied};
+ghost use Rattle.std.specs.Prelude.{option_map};
 ghost use Rattle.pl_history.specs.History.{back, changed, settled};
-ghost use Rattle.pl_tables.specs.Rows.{inserted, is_full, no_rows, removed, replaced, row_at};
-ghost use Rattle.pl_tables.specs.Slots.{live};
+ghost use Rattle.pl_tables.specs.Rows.{inserted, is_full, key_at, no_rows, removed, replaced};
+ghost use Rattle.pl_tables.specs.Rows.{row_at, Holds};
+ghost use Rattle.pl_tables.specs.Slots.{id_at, live};
+ghost use Rattle.pl_tables.specs.Undo.{IsInOrder};
 
 use crate::Slot;
-use crate::slots::{place_of, pop_slot, restore, swap_row};
-use pl_base::Cells;
+use crate::heap::Heap;
+use pl_base::{Cells, List};
+use pl_unique::{Key, KeyFail, Part, change_keys, forget_keys, new_keys, undo_keys};
 use std::alloc::{AllocError, Global};
 use std::marker::Model;
 
@@ -21,6 +25,8 @@ const ID_BOUND: u64 = 1 << 63;
 /// Why a table isn't changed.
 #[derive(Clone, Copy)]
 pub enum TableFail {
+    /// The row of this id has a key of the new one.
+    Taken(u64),
     /// There would be more than 1,000,000 rows, or no row id is left.
     Full,
     Memory,
@@ -34,59 +40,54 @@ impl From<AllocError> for TableFail {
     }
 }
 
-// How a change is undone.
-#[derive(Drop)]
-pub enum Change {
-    /// The last slot goes, and the next id is its own again.
-    Added,
-    /// The slot at this place has this row again.
-    Changed { at: usize, row: Cells },
-}
-
-/// The rows of a table, by their ids, and what is needed to undo changes.
+/// The rows of a table by their ids, its keys, and what is needed to undo changes.
 #[derive(Drop)]
 pub struct Table {
-    slots: Vec<Slot>,
-    /// The id that the next new row gets.
-    next: u64,
-    /// How many slots have a row.
-    count: usize,
-    changes: Vec<Change>,
+    alloc: Global,
+    heap: Heap,
+    keys: Vec<Key>,
 }
 
 impl Model for Table {
-    ghost use Rattle.std.specs.Prelude.{◌≡◌, length};
     ghost use Rattle.std.specs.List.{AllByRecursion};
     ghost use Rattle.std.specs.Coded.{codes};
     ghost use Rattle.pl_base.specs.contracts.value.Value as value;
-    ghost use Rattle.pl_history.specs.History.{History, history, past_of, seen_as};
+    ghost use Rattle.pl_history.specs.History.{History, seen_as};
     ghost use Rattle.pl_tables.specs.Rows.{Content};
-    ghost use Rattle.pl_tables.specs.Slots.{live};
-    ghost use Rattle.pl_tables.specs.Undo.{content, kept, undo_one, IsInOrder};
+    ghost use Rattle.pl_tables.specs.Undo.{content, InStep};
+    ghost use Rattle.pl_unique.specs.RowKeys.{columns_of};
 
     ghost Value = { History Content };
 
     ghost coded = { Prim.hlevel (codes, value.the_row.coded) };
 
-    ghost view = { λ t. seen_as content
-        (history undo_one t.changes.items (kept t.slots.items t.next)) };
+    ghost view = { λ t. seen_as (content (columns_of t.keys.items)) t.heap };
 
-    ghost invariant = { λ t. IsInOrder (kept t.slots.items t.next)
-        × AllByRecursion IsInOrder (past_of undo_one t.changes.items (kept t.slots.items t.next))
-        × (t.count ≡ length (live t.slots.items)) };
+    ghost invariant = { λ t. AllByRecursion (InStep t.heap) t.keys.items };
 }
 
 impl Table {
-    /// A table without rows.
-    pub fn new(alloc: Global) -> Table
-        ensures current { result.current ≡ no_rows }
+    /// A table without rows, with keys of these columns, by their places in a row.
+    pub fn new(alloc: Global, keys: &[List<usize>]) -> Result<Table, AllocError>
+        ensures current { IfOk result (λ table. table.current ≡ no_rows keys.now) }
+        ensures past { IfOk result (λ table. table.past ≡ []) }
+    {
+        let keys = new_keys(alloc, keys)?;
+        Ok(Table {
+            alloc,
+            heap: Heap::new(alloc),
+            keys,
+        })
+    }
+
+    // A table without rows and keys.
+    pub(crate) fn empty(alloc: Global) -> Table
         ensures past { result.past ≡ [] }
     {
         Table {
-            slots: Vec::new(alloc),
-            next: 1,
-            count: 0,
-            changes: Vec::new(alloc),
+            alloc,
+            heap: Heap::new(alloc),
+            keys: Vec::new(alloc),
         }
     }
 
@@ -94,37 +95,42 @@ impl Table {
     pub fn slots(&self) -> &[Slot]
         ensures { live result.now ≡ self.now.current.rows }
     {
-        self.slots.as_slice()
+        self.heap.slots()
     }
 
     /// How many rows there are.
     pub fn count(&self) -> usize
         ensures { result ≡ length self.now.current.rows }
     {
-        self.count
+        self.heap.count()
     }
 
     /// The row of this id. None where there is none.
     pub fn row(&self, id: u64) -> Option<&Cells>
         ensures { option_copied result ≡ row_at id self.now.current.rows }
     {
-        let at = place_of(self.slots.as_slice(), id)?;
-        self.slots[at].row.as_ref()
+        let at = self.heap.place_of(id)?;
+        self.heap.slot(at).row.as_ref()
     }
 
-    /// Adds the row and answers its id. Full where there are 1,000,000 rows, or the next id is 2^63.
-    pub fn insert(&mut self, row: Cells) -> Result<u64, TableFail>
-        ensures full { (result ≡ Err TableFail.Full) ↔ IsTrue (is_full self.old.current) }
-        ensures id { IfOk result (λ id. id ≡ self.old.current.next) }
-        ensures ok { OnOk result (self.new ≡ changed (inserted row self.old.current) self.old) }
-        ensures err { OnErr result (self.new ≡ self.old) }
+    /// How many keys there are.
+    pub fn key_count(&self) -> usize
+        ensures { result ≡ length self.now.current.keys }
     {
-        if self.is_full() {
-            return Err(TableFail::Full);
-        }
-        match self.append(row) {
-            Ok(id) => Ok(id),
-            Err(_) => Err(TableFail::Memory),
+        self.keys.len()
+    }
+
+    /// The id of the row that has these parts in the columns of this key, of which 0 is the first.
+    /// None where no row has.
+    pub fn find_key(&self, key: usize, parts: &[Part]) -> Option<u64>
+        requires there { key < length self.now.current.keys }
+        ensures { (id : _) → (result ≡ Some id)
+            ↔ (option_and_then (λ columns. key_at columns id self.now.current.rows)
+            (slice_get self.now.current.keys key) ≡ Some parts.now) }
+    {
+        match self.keys[key].at.place_of(parts) {
+            Some(at) => Some(self.heap.slot(at).id),
+            None => None,
         }
     }
 
@@ -132,39 +138,62 @@ impl Table {
     pub fn is_full(&self) -> bool
         ensures { result ≡ is_full self.now.current }
     {
-        self.count >= MOST_ROWS || self.next >= ID_BOUND
+        self.heap.count() >= MOST_ROWS || self.heap.next() >= ID_BOUND
     }
 
-    // Adds a row where one can be added.
-    fn append(&mut self, row: Cells) -> Result<u64, AllocError>
-        requires room { is_full self.old.current ≡ false }
+    /// Adds the row and answers its id. Full where there are 1,000,000 rows, or the next id is
+    /// 2^63, and else Taken where another row has a key of it.
+    pub fn insert(&mut self, row: Cells) -> Result<u64, TableFail>
+        ensures full { (result ≡ Err TableFail.Full) ↔ IsTrue (is_full self.old.current) }
+        ensures taken { (id : _) → result ≡ Err (TableFail.Taken id)
+            → Holds row self.old.current id }
+        ensures free { OnOk result ((id : _) → Holds row self.old.current id → ⊥) }
         ensures id { IfOk result (λ id. id ≡ self.old.current.next) }
         ensures ok { OnOk result (self.new ≡ changed (inserted row self.old.current) self.old) }
         ensures err { OnErr result (self.new ≡ self.old) }
     {
-        self.changes.reserve(1)?;
-        self.slots.reserve(1)?;
-        let id = self.next;
-        self.slots.push_reserved(Slot { id, row: Some(row) });
-        self.changes.push_reserved(Change::Added);
-        self.next = id + 1;
-        self.count += 1;
-        Ok(id)
+        if self.is_full() {
+            return Err(TableFail::Full);
+        }
+        match change_keys(self.alloc, &mut self.keys, None, Some(row.as_slice())) {
+            Err(fail) => Err(refusal(&self.heap, fail)),
+            Ok(()) => {
+                let id = self.heap.next();
+                match self.heap.append(row) {
+                    Ok(()) => Ok(id),
+                    Err(_) => {
+                        undo_keys(&mut self.keys);
+                        Err(TableFail::Memory)
+                    }
+                }
+            }
+        }
     }
 
-    /// Puts the row in the place of the one of this id.
-    pub fn replace(&mut self, id: u64, row: Cells) -> Result<(), AllocError>
+    /// Puts the row in the place of the one of this id. Taken where another row has a key of it.
+    pub fn replace(&mut self, id: u64, row: Cells) -> Result<(), TableFail>
         requires there { IsSome (row_at id self.old.current.rows) }
+        ensures full { result ≢ Err TableFail.Full }
+        ensures taken { (holder : _) → result ≡ Err (TableFail.Taken holder)
+            → (holder ≢ id) × Holds row self.old.current holder }
+        ensures free { OnOk result ((holder : _) → Holds row self.old.current holder
+            → holder ≡ id) }
         ensures ok { OnOk result (self.new ≡ changed (replaced id row self.old.current) self.old) }
         ensures err { OnErr result (self.new ≡ self.old) }
     {
-        self.changes.reserve(1)?;
-        if let Some(at) = place_of(self.slots.as_slice(), id) {
-            if let Some(old) = swap_row(&mut self.slots, at, Some(row)) {
-                self.changes.push_reserved(Change::Changed { at, row: old });
-            }
+        let Some(at) = self.heap.place_of(id) else {
+            return Ok(());
+        };
+        match change_keys(self.alloc, &mut self.keys, Some(at), Some(row.as_slice())) {
+            Err(fail) => Err(refusal(&self.heap, fail)),
+            Ok(()) => match self.heap.put(at, Some(row)) {
+                Ok(()) => Ok(()),
+                Err(_) => {
+                    undo_keys(&mut self.keys);
+                    Err(TableFail::Memory)
+                }
+            },
         }
-        Ok(())
     }
 
     /// Takes the row of this id out.
@@ -173,36 +202,49 @@ impl Table {
         ensures ok { OnOk result (self.new ≡ changed (removed id self.old.current) self.old) }
         ensures err { OnErr result (self.new ≡ self.old) }
     {
-        self.changes.reserve(1)?;
-        if let Some(at) = place_of(self.slots.as_slice(), id) {
-            if let Some(old) = swap_row(&mut self.slots, at, None) {
-                self.changes.push_reserved(Change::Changed { at, row: old });
-                self.count -= 1;
-            }
+        let Some(at) = self.heap.place_of(id) else {
+            return Ok(());
+        };
+        match change_keys(self.alloc, &mut self.keys, Some(at), None) {
+            Err(_) => Err(AllocError),
+            Ok(()) => match self.heap.put(at, None) {
+                Ok(()) => Ok(()),
+                Err(fail) => {
+                    undo_keys(&mut self.keys);
+                    Err(fail)
+                }
+            },
         }
-        Ok(())
     }
 
     /// Undoes the newest change, if there is one.
     pub fn undo(&mut self)
         ensures back { self.new ≡ back self.old }
     {
-        match self.changes.pop() {
-            Some(Change::Added) => {
-                self.count = pop_slot(&mut self.slots, self.count);
-                self.next = self.next.saturating_sub(1);
-            }
-            Some(Change::Changed { at, row }) => {
-                self.count = restore(&mut self.slots, at, row, self.count);
-            }
-            None => {}
-        }
+        self.heap.undo();
+        undo_keys(&mut self.keys);
     }
 
     /// No change can be undone from now on.
     pub fn forget(&mut self)
         ensures settled { self.new ≡ settled self.old }
     {
-        self.changes.clear();
+        self.heap.forget();
+        forget_keys(&mut self.keys);
+    }
+}
+
+// Why a table isn't changed, where keys aren't.
+fn refusal(heap: &Heap, fail: KeyFail) -> TableFail
+    requires { (at : _) → fail ≡ KeyFail.Taken at → at < length heap.now.current.slots }
+    ensures taken { (at : _) → fail ≡ KeyFail.Taken at
+        → option_map TableFail.Taken (id_at heap.now.current.slots at) ≡ Some result }
+    ensures memory { fail ≡ KeyFail.Memory → result ≡ TableFail.Memory }
+    ensures order { IsInOrder heap.now.current }
+{
+    let slots = heap.slots();
+    match fail {
+        KeyFail::Taken(at) => TableFail::Taken(slots[at].id),
+        KeyFail::Memory => TableFail::Memory,
     }
 }

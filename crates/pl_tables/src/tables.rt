@@ -1,18 +1,20 @@
 //! Tables by their names.
 
-ghost use Rattle.std.specs.Prelude.{◌≡◌, ◌<◌, ◌-◌, ◌∷◌, ◌++◌, ◌↔◌, [], None, IsSome, true, false};
+ghost use Rattle.std.specs.Prelude.{◌≡◌, ◌≢◌, ◌<◌, ◌-◌, ◌∷◌, ◌++◌, ◌↔◌, [], None, IsSome, true};
+ghost use Rattle.std.specs.Prelude.{false};
 ghost use Rattle.std.specs.Prelude.{length, option_map, slice_get, take, Err, IfOk, OnOk, OnErr, Some};
 ghost use Rattle.std.specs.List.{position};
 ghost use Rattle.std.specs.Option.{option_copied};
 ghost use Rattle.pl_history.specs.History.{back, changed, settled};
 ghost use Rattle.pl_tables.specs.Rows.{inserted, no_rows, removed, replaced};
 ghost use Rattle.pl_tables.specs.Named.{content_named, is_full_named, named, next_named, on_table};
-ghost use Rattle.pl_tables.specs.Named.{row_named, without_table};
-ghost use Rattle.pl_tables.specs.Places.{gone, is_at, is_full_in, next_in, row_in, undone_place, with_insert};
+ghost use Rattle.pl_tables.specs.Named.{row_named, without_table, HoldsIn};
+ghost use Rattle.pl_tables.specs.Places.{content_in, gone, is_at, is_full_in, next_in, row_in};
+ghost use Rattle.pl_tables.specs.Places.{undone_place, with_insert};
 ghost use Rattle.pl_tables.specs.Places.{settled_place, there, with_place, with_remove, with_replace};
 
 use crate::{Table, TableFail};
-use pl_base::{Cells, Name};
+use pl_base::{Cells, List, Name};
 use std::alloc::{AllocError, Global};
 use std::marker::Model;
 
@@ -89,18 +91,20 @@ impl Tables {
         }
     }
 
-    /// Adds a table without rows, of a name that no table has.
-    pub fn create(&mut self, name: Name) -> Result<(), AllocError>
+    /// Adds a table without rows, of a name that no table has, with keys of these columns, by their
+    /// places in a row.
+    pub fn create(&mut self, name: Name, keys: &[List<usize>]) -> Result<(), AllocError>
         requires absent { content_named name self.old.current ≡ None }
         ensures ok { OnOk result (self.new
-            ≡ changed (self.old.current ++ named name no_rows ∷ []) self.old) }
+            ≡ changed (self.old.current ++ named name (no_rows keys.now) ∷ []) self.old) }
         ensures err { OnErr result (self.new ≡ self.old) }
     {
+        let table = Table::new(self.alloc, keys)?;
         self.steps.reserve(1)?;
         self.places.reserve(1)?;
         self.places.push_reserved(Place {
             name,
-            table: Table::new(self.alloc),
+            table,
             is_there: true,
         });
         self.steps.push_reserved(Step::Created);
@@ -122,11 +126,16 @@ impl Tables {
         Ok(())
     }
 
-    /// Adds the row to the table of this name, and answers its id. Full where the table is full.
+    /// Adds the row to the table of this name, and answers its id. Full where the table is full,
+    /// and else Taken where another row has a key of it.
     pub fn insert(&mut self, name: Name, row: Cells) -> Result<u64, TableFail>
         requires there { IsSome (content_named name self.old.current) }
         ensures full { (result ≡ Err TableFail.Full)
             ↔ (is_full_named name self.old.current ≡ Some true) }
+        ensures taken { (id : _) → result ≡ Err (TableFail.Taken id)
+            → HoldsIn row id (content_named name self.old.current) }
+        ensures free { OnOk result ((id : _)
+            → HoldsIn row id (content_named name self.old.current) → ⊥) }
         ensures id { IfOk result (λ id. next_named name self.old.current ≡ Some id) }
         ensures ok { OnOk result (self.new
             ≡ changed (on_table name (inserted row) self.old.current) self.old) }
@@ -152,14 +161,22 @@ impl Tables {
         }
     }
 
-    /// Puts the row in the place of the one of this id, in the table of this name.
-    pub fn replace(&mut self, name: Name, id: u64, row: Cells) -> Result<(), AllocError>
+    /// Puts the row in the place of the one of this id, in the table of this name. Taken where
+    /// another row has a key of it.
+    pub fn replace(&mut self, name: Name, id: u64, row: Cells) -> Result<(), TableFail>
         requires there { IsSome (row_named name id self.old.current) }
+        ensures full { result ≢ Err TableFail.Full }
+        ensures taken { (holder : _) → result ≡ Err (TableFail.Taken holder)
+            → (holder ≢ id) × HoldsIn row holder (content_named name self.old.current) }
+        ensures free { OnOk result ((holder : _)
+            → HoldsIn row holder (content_named name self.old.current) → holder ≡ id) }
         ensures ok { OnOk result (self.new
             ≡ changed (on_table name (replaced id row) self.old.current) self.old) }
         ensures err { OnErr result (self.new ≡ self.old) }
     {
-        self.steps.reserve(1)?;
+        if self.steps.reserve(1).is_err() {
+            return Err(TableFail::Memory);
+        }
         match place_of(self.places.as_slice(), &name) {
             None => Ok(()),
             Some(at) => match replace_at(&mut self.places, at, id, row) {
@@ -231,7 +248,7 @@ fn clear_at(places: &mut Vec<Place>, at: usize, alloc: Global)
     ensures { there places.new.items ≡ there places.old.items }
 {
     if at < places.len() && !places[at].is_there {
-        places[at].table = Table::new(alloc);
+        places[at].table = Table::empty(alloc);
     }
 }
 
@@ -262,6 +279,10 @@ fn insert_at(places: &mut Vec<Place>, at: usize, row: Cells) -> Result<u64, Tabl
     requires { at < length places.old.items }
     ensures full { (result ≡ Err TableFail.Full)
         ↔ (is_full_in (slice_get places.old.items at) ≡ Some true) }
+    ensures taken { (id : _) → result ≡ Err (TableFail.Taken id)
+        → HoldsIn row id (content_in (slice_get places.old.items at)) }
+    ensures free { OnOk result ((id : _)
+        → HoldsIn row id (content_in (slice_get places.old.items at)) → ⊥) }
     ensures id { IfOk result (λ id. next_in (slice_get places.old.items at) ≡ Some id) }
     ensures ok { OnOk result (places.new.items ≡ with_place places.old.items at (with_insert row)) }
     ensures err { OnErr result (places.new.items ≡ places.old.items) }
@@ -272,9 +293,14 @@ fn insert_at(places: &mut Vec<Place>, at: usize, row: Cells) -> Result<u64, Tabl
     }
 }
 
-fn replace_at(places: &mut Vec<Place>, at: usize, id: u64, row: Cells) -> Result<(), AllocError>
+fn replace_at(places: &mut Vec<Place>, at: usize, id: u64, row: Cells) -> Result<(), TableFail>
     requires place { at < length places.old.items }
     requires there { IsSome (row_in id (slice_get places.old.items at)) }
+    ensures full { result ≢ Err TableFail.Full }
+    ensures taken { (holder : _) → result ≡ Err (TableFail.Taken holder)
+        → (holder ≢ id) × HoldsIn row holder (content_in (slice_get places.old.items at)) }
+    ensures free { OnOk result ((holder : _)
+        → HoldsIn row holder (content_in (slice_get places.old.items at)) → holder ≡ id) }
     ensures ok { OnOk result (places.new.items
         ≡ with_place places.old.items at (with_replace id row)) }
     ensures err { OnErr result (places.new.items ≡ places.old.items) }

@@ -3,8 +3,9 @@
 ghost use Rattle.std.specs.Prelude.{◌≡◌, IsSome, None, true, false};
 ghost use Rattle.pl_tables.specs.Named.{content_named, row_named};
 
-use crate::{Table, Tables};
+use crate::{Table, TableFail, Tables};
 use pl_base::{Cells, List, Name, Value};
+use pl_unique::key_of;
 use std::alloc::{AllocError, Global};
 use std::test::Fail;
 
@@ -22,8 +23,18 @@ fn number_of(table: &Table, id: u64) -> Option<i32> {
     }
 }
 
+// The first column is a key.
+fn first_column(alloc: Global) -> Result<Vec<List<usize>>, AllocError> {
+    let mut columns = List::new(alloc);
+    columns.push(0)?;
+    let mut keys = Vec::new(alloc);
+    keys.push(columns)?;
+    Ok(keys)
+}
+
 fn filled(alloc: Global) -> Result<Table, Fail> {
-    let mut table = Table::new(alloc);
+    let keys = first_column(alloc)?;
+    let mut table = Table::new(alloc, keys.as_slice())?;
     for number in [10, 20, 30] {
         if table.insert(row(alloc, number)?).is_err() {
             return Err(Fail::new("no row is added"));
@@ -38,7 +49,7 @@ fn rows_are_replaced_and_removed(rt: HostRuntime) -> Result<(), Fail> {
     let mut table = filled(alloc)?;
     assert!(rt; !table.is_full());
     assert!(rt; table.row(2).is_some());
-    table.replace(2, row(alloc, 21)?)?;
+    assert!(rt; table.replace(2, row(alloc, 21)?).is_ok());
     assert_eq!(rt; number_of(&table, 2), Some(21));
     assert!(rt; table.row(1).is_some());
     table.remove(1)?;
@@ -63,6 +74,47 @@ fn rows_are_replaced_and_removed(rt: HostRuntime) -> Result<(), Fail> {
     Ok(())
 }
 
+// The id of the row of this number.
+fn found(alloc: Global, table: &Table, number: i32) -> Result<Option<u64>, AllocError> {
+    let row = row(alloc, number)?;
+    let columns = [0].as_slice();
+    match key_of(alloc, columns, row.as_slice())? {
+        Some(parts) if table.key_count() > 0 => Ok(table.find_key(0, parts.as_slice())),
+        _ => Ok(None),
+    }
+}
+
+fn is_taken<T: Drop>(answer: Result<T, TableFail>, holder: u64) -> bool {
+    match answer {
+        Err(TableFail::Taken(id)) => id == holder,
+        _ => false,
+    }
+}
+
+#[test]
+fn keys_are_found_and_stand_once(rt: HostRuntime) -> Result<(), Fail> {
+    let alloc = rt.alloc();
+    let mut table = filled(alloc)?;
+    assert_eq!(rt; found(alloc, &table, 20)?, Some(2));
+    assert!(rt; is_taken(table.insert(row(alloc, 20)?), 2));
+    if table.row(1).is_some() {
+        assert!(rt; is_taken(table.replace(1, row(alloc, 30)?), 3));
+    }
+    if table.row(2).is_some() {
+        table.remove(2)?;
+    }
+    assert_eq!(rt; found(alloc, &table, 20)?, None);
+    table.undo();
+    assert_eq!(rt; found(alloc, &table, 20)?, Some(2));
+    assert!(rt; is_taken(table.insert(row(alloc, 20)?), 2));
+    table.undo();
+    assert_eq!(rt; found(alloc, &table, 30)?, None);
+    assert_eq!(rt; table.insert(row(alloc, 30)?).unwrap_or(0), 3);
+    table.forget();
+    assert_eq!(rt; found(alloc, &table, 30)?, Some(3));
+    Ok(())
+}
+
 fn has_table(tables: &Tables, name: Name) -> bool
     ensures there { result ≡ true → IsSome (content_named name tables.now.current) }
     ensures absent { result ≡ false → content_named name tables.now.current ≡ None }
@@ -84,7 +136,8 @@ fn fill(alloc: Global, tables: &mut Tables, name: Name) -> Result<bool, Fail> {
     if has_table(tables, name) {
         return Ok(false);
     }
-    tables.create(name)?;
+    let keys = first_column(alloc)?;
+    tables.create(name, keys.as_slice())?;
     for number in [10, 20] {
         if !has_table(tables, name) || tables.insert(name, row(alloc, number)?).is_err() {
             return Ok(false);
@@ -102,7 +155,7 @@ fn tables_change_by_their_names(rt: HostRuntime) -> Result<(), Fail> {
     let mut tables = Tables::new(alloc);
     assert!(rt; fill(alloc, &mut tables, name)?);
     assert!(rt; has_row(&tables, name, 1));
-    tables.replace(name, 1, row(alloc, 11)?)?;
+    assert!(rt; tables.replace(name, 1, row(alloc, 11)?).is_ok());
     assert!(rt; has_row(&tables, name, 2));
     tables.remove(name, 2)?;
     assert_eq!(rt; tables.changes(), 5);

@@ -1,13 +1,13 @@
 //! The store and its marks.
 
-ghost use Rattle.std.specs.Prelude.{◌≡◌, ◌<◌, ◌≤◌, ◌+◌, ◌∷◌, ◌++◌, ◌↔◌, [], ℕ, Some, None, IsSome};
+ghost use Rattle.std.specs.Prelude.{◌≡◌, ◌≢◌, ◌<◌, ◌≤◌, ◌+◌, ◌∷◌, ◌++◌, ◌↔◌, [], ℕ, Some, None, IsSome};
 ghost use Rattle.std.specs.Prelude.{length, slice_get, take, true, Err, IfOk, OnOk, OnErr};
 ghost use Rattle.pl_tables.specs.Named.{content_named, is_full_named, named, next_named, on_table};
-ghost use Rattle.pl_tables.specs.Named.{row_named, without_table};
+ghost use Rattle.pl_tables.specs.Named.{row_named, without_table, HoldsIn};
 ghost use Rattle.pl_tables.specs.Rows.{inserted, no_rows, removed, replaced};
 ghost use Rattle.pl_undo.specs.Store.{state_at};
 
-use pl_base::{Cells, Name};
+use pl_base::{Cells, List, Name};
 use pl_tables::{TableFail, Tables};
 use std::alloc::{AllocError, Global};
 use std::marker::Model;
@@ -73,17 +73,18 @@ impl Store {
         self.starts.len()
     }
 
-    /// Adds a table without rows, of a name that no table has.
-    pub fn create(&mut self, name: Name) -> Result<(), AllocError>
+    /// Adds a table without rows, of a name that no table has, with keys of these columns, by their
+    /// places in a row.
+    pub fn create(&mut self, name: Name, keys: &[List<usize>]) -> Result<(), AllocError>
         requires absent { content_named name self.old.tables ≡ None }
         ensures ok { OnOk result (self.new.tables
-            ≡ self.old.tables ++ named name no_rows ∷ []) }
+            ≡ self.old.tables ++ named name (no_rows keys.now) ∷ []) }
         ensures err { OnErr result (self.new.tables ≡ self.old.tables) }
         ensures last { self.new.last ≡ self.old.last }
         ensures marks { self.new.marks ≡ self.old.marks }
         ensures spare { self.new.spare ≡ self.old.spare }
     {
-        match self.tables.create(name) {
+        match self.tables.create(name, keys) {
             Ok(()) => Ok(()),
             Err(fail) => Err(fail),
         }
@@ -104,11 +105,16 @@ impl Store {
         }
     }
 
-    /// Adds the row to the table of this name, and answers its id.
+    /// Adds the row to the table of this name, and answers its id. Full where the table is full,
+    /// and else Taken where another row has a key of it.
     pub fn insert(&mut self, name: Name, row: Cells) -> Result<u64, TableFail>
         requires there { IsSome (content_named name self.old.tables) }
         ensures full { (result ≡ Err TableFail.Full)
             ↔ (is_full_named name self.old.tables ≡ Some true) }
+        ensures taken { (id : _) → result ≡ Err (TableFail.Taken id)
+            → HoldsIn row id (content_named name self.old.tables) }
+        ensures free { OnOk result ((id : _)
+            → HoldsIn row id (content_named name self.old.tables) → ⊥) }
         ensures id { IfOk result (λ id. next_named name self.old.tables ≡ Some id) }
         ensures ok { OnOk result (self.new.tables ≡ on_table name (inserted row) self.old.tables) }
         ensures err { OnErr result (self.new.tables ≡ self.old.tables) }
@@ -122,9 +128,15 @@ impl Store {
         }
     }
 
-    /// Puts the row in the place of the one of this id, in the table of this name.
-    pub fn replace(&mut self, name: Name, id: u64, row: Cells) -> Result<(), AllocError>
+    /// Puts the row in the place of the one of this id, in the table of this name. Taken where
+    /// another row has a key of it.
+    pub fn replace(&mut self, name: Name, id: u64, row: Cells) -> Result<(), TableFail>
         requires there { IsSome (row_named name id self.old.tables) }
+        ensures full { result ≢ Err TableFail.Full }
+        ensures taken { (holder : _) → result ≡ Err (TableFail.Taken holder)
+            → (holder ≢ id) × HoldsIn row holder (content_named name self.old.tables) }
+        ensures free { OnOk result ((holder : _)
+            → HoldsIn row holder (content_named name self.old.tables) → holder ≡ id) }
         ensures ok { OnOk result (self.new.tables
             ≡ on_table name (replaced id row) self.old.tables) }
         ensures err { OnErr result (self.new.tables ≡ self.old.tables) }

@@ -7,6 +7,7 @@ mod random;
 
 use crate::{Mark, Store};
 use pl_base::{Cells, List, Name, Value};
+use pl_tables::TableFail;
 use std::alloc::{AllocError, Global};
 use std::test::Fail;
 
@@ -46,11 +47,16 @@ fn has_row(store: &Store, name: Name, id: u64) -> bool
     }
 }
 
-fn create(store: &mut Store, name: Name) -> Result<(), Fail> {
+// A table whose number is its key.
+fn create(alloc: Global, store: &mut Store, name: Name) -> Result<(), Fail> {
     if has_table(store, name) {
         return Err(Fail::new("the table is there"));
     }
-    store.create(name)?;
+    let mut columns = List::new(alloc);
+    columns.push(0)?;
+    let mut keys = Vec::new(alloc);
+    keys.push(columns)?;
+    store.create(name, keys.as_slice())?;
     Ok(())
 }
 
@@ -67,7 +73,7 @@ fn insert(store: &mut Store, name: Name, row: Cells) -> Result<(), Fail> {
         return Err(Fail::new("no table"));
     }
     match store.insert(name, row) {
-        Ok(_) => Ok(()),
+        Ok(_) | Err(TableFail::Taken(_)) => Ok(()),
         Err(_) => Err(Fail::new("no row is added")),
     }
 }
@@ -76,8 +82,10 @@ fn replace(store: &mut Store, name: Name, id: u64, row: Cells) -> Result<(), Fai
     if !has_row(store, name, id) {
         return Err(Fail::new("no row"));
     }
-    store.replace(name, id, row)?;
-    Ok(())
+    match store.replace(name, id, row) {
+        Ok(()) | Err(TableFail::Taken(_)) => Ok(()),
+        Err(_) => Err(Fail::new("no row is replaced")),
+    }
 }
 
 fn remove(store: &mut Store, name: Name, id: u64) -> Result<(), Fail> {
@@ -112,7 +120,7 @@ fn release(store: &mut Store, at: usize) -> Result<(), Fail> {
 
 fn play(alloc: Global, store: &mut Store, name: Name, step: Step) -> Result<(), Fail> {
     match step {
-        Step::Create => create(store, name),
+        Step::Create => create(alloc, store, name),
         Step::Drop => drop_table(store, name),
         Step::Insert(number) => insert(store, name, row(alloc, number)?),
         Step::Replace(id, number) => replace(store, name, id, row(alloc, number)?),
@@ -160,8 +168,11 @@ fn a_roll_back_brings_back_what_was(rt: HostRuntime) -> Result<(), Fail> {
         (Step::Seal, Some([(1, 10)].as_slice()), 0),
         (Step::Mark, Some([(1, 10)].as_slice()), 1),
         (Step::Insert(20), Some([(1, 10), (2, 20)].as_slice()), 1),
+        (Step::Insert(10), Some([(1, 10), (2, 20)].as_slice()), 1),
+        (Step::Replace(2, 10), Some([(1, 10), (2, 20)].as_slice()), 1),
         (Step::Mark, Some([(1, 10), (2, 20)].as_slice()), 2),
         (Step::Remove(1), Some([(2, 20)].as_slice()), 2),
+        (Step::Insert(20), Some([(2, 20)].as_slice()), 2),
         (Step::Replace(2, 21), Some([(2, 21)].as_slice()), 2),
         (Step::Mark, Some([(2, 21)].as_slice()), 3),
         (Step::Insert(30), Some([(2, 21), (3, 30)].as_slice()), 3),

@@ -34,13 +34,22 @@ impl Plain {
         })
     }
 
+    fn is_taken(&self, number: i32) -> bool {
+        self.rows.iter().any(|row| row.1 == number)
+    }
+
     fn insert(&mut self, number: i32) -> Result<(), AllocError> {
-        self.rows.push((self.next, number))?;
-        self.next = self.next.saturating_add(1);
+        if !self.is_taken(number) {
+            self.rows.push((self.next, number))?;
+            self.next = self.next.saturating_add(1);
+        }
         Ok(())
     }
 
     fn replace(&mut self, id: u64, number: i32) {
+        if self.is_taken(number) {
+            return;
+        }
         for row in self.rows.iter_mut() {
             if row.0 == id {
                 row.1 = number;
@@ -122,7 +131,7 @@ fn next_random(random: u64) -> u64 {
 
 // A step that can be done to this table.
 fn change_of(table: &Plain, random: u64) -> Step {
-    let number = i32::try_from(random % 1000).unwrap_or(0);
+    let number = i32::try_from(random % 100).unwrap_or(0);
     if !table.is_there {
         return Step::Create;
     }

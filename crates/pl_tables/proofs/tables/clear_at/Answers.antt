@@ -15,4 +15,4 @@ returns-then-not-index c =
     let has : slice_get ps at ≡ Some c.index.result.now = slice_get_read ps (length ps) at c.index.result.now refl lt c.index.ensures in
     let also : slice_get ps at ≡ Some p = slice_get_read ps (length ps) at p refl lt c.index_mut.ensures.value in
     let was : p.is_there ≡ false = ap (λ (q : Place). q.is_there) (same_place ps at p c.index.result.now also has) ∙ c.if-not-index.true in
-    there_cleared ps at p (record { name = p.name; table = c.new.result; is_there = p.is_there }) also was was
+    there_cleared ps at p (record { name = p.name; table = c.empty.result; is_there = p.is_there }) also was was

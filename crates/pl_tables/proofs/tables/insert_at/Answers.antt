@@ -1,10 +1,11 @@
-use Rattle.std.proofs.Common.{◌≡◌, ◌∙◌, refl, sym, Some, ℕ, Option, ap, length}
+use Rattle.std.proofs.Common.{◌≡◌, ◌∙◌, refl, sym, Some, ℕ, Option, ap, subst, length}
 use Rattle.std.specs.Prelude.{slice_get, slice_set}
 use Rattle.std.proofs.lemmas.Option.{slice_get_read}
 use Rattle.pl_history.specs.History.{History}
 use Rattle.pl_tables.specs.declared.tables.Place.{Place}
+use Rattle.pl_tables.specs.Named.{HoldsIn}
 use Rattle.pl_tables.specs.Rows.{Content}
-use Rattle.pl_tables.specs.Places.{with_insert, next_in}
+use Rattle.pl_tables.specs.Places.{content_in, with_insert, next_in}
 use Rattle.pl_tables.proofs.Finding.{place_set}
 use Rattle.pl_tables.proofs.tables.insert_at.Goals as goal
 
@@ -20,3 +21,15 @@ returns-in-Ok-clause-id c =
     let ps = c.args.places.now.items in
     let has : slice_get ps c.args.at ≡ Some c.index_mut.result.now = slice_get_read ps (length ps) c.args.at c.index_mut.result.now refl c.requires c.index_mut.ensures.value in
     ap next_in has ∙ ap (λ (n : ℕ). let o : Option ℕ = Some n in o) (sym c.in-Ok.ensures.id)
+
+pub returns-in-Ok-clause-free : goal.returns-in-Ok-clause-free
+returns-in-Ok-clause-free c id holds =
+    let ps = c.args.places.now.items in
+    let has : slice_get ps c.args.at ≡ Some c.index_mut.result.now = slice_get_read ps (length ps) c.args.at c.index_mut.result.now refl c.requires c.index_mut.ensures.value in
+    c.in-Ok.ensures.free id (subst (λ (o : Option Place). HoldsIn c.args.row id (content_in o)) has holds)
+
+pub returns-in-Err-clause-taken : goal.returns-in-Err-clause-taken
+returns-in-Err-clause-taken c id e =
+    let ps = c.args.places.now.items in
+    let has : slice_get ps c.args.at ≡ Some c.index_mut.result.now = slice_get_read ps (length ps) c.args.at c.index_mut.result.now refl c.requires c.index_mut.ensures.value in
+    subst (λ (o : Option Place). HoldsIn c.args.row id (content_in o)) (sym has) (c.insert.ensures.taken id (c.in-Err.is ∙ e))

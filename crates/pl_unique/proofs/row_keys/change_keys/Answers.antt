@@ -25,7 +25,7 @@ loop-done-preserved c =
       is = c.in-Ok.ensures.ok ∙ (ap (λ (l : List Key). with_key l at change) c.loop-done.invariant.is ∙ partly_on change at ks);
       within = omega (arith, l, n, c.len.ensures, c.loop-done-test.true);
       free = one_on (KeyIsFree c.args.place (option_copied c.args.row)) at ks c.loop-done.invariant.free
-      (λ k is. c.in-Ok.ensures.free k (ap (λ (l : List Key). slice_get l at) c.loop-done.invariant.is ∙ (partly_get change at ks ∙ is)));
+          (λ k is. c.in-Ok.ensures.free k (ap (λ (l : List Key). slice_get l at) c.loop-done.invariant.is ∙ (partly_get change at ks ∙ is)));
     }
 
 pub returns-clause-ok : goal.returns-clause-ok

@@ -1,45 +1,29 @@
-use Rattle.std.proofs.Common.{◌≡◌, ◌++◌, ◌∷◌, [], ◌∙◌, List, ap, ℕ}
-use Rattle.pl_history.specs.History.{History, back}
-use Rattle.pl_tables.specs.declared.slots.Slot.{Slot}
-use Rattle.pl_tables.specs.declared.table.Change.{Change}
-use Rattle.pl_tables.specs.declared.table.Change.TheVariants.{Added, Changed}
+use Rattle.std.proofs.Common.{◌∙◌, sym, List, ℕ, ap, subst, map}
+use Rattle.std.specs.List.{AllByRecursion}
+use Rattle.pl_history.specs.History.{back, seen_as, History}
+use Rattle.pl_history.specs.HistoryLaws.{seen_back}
+use Rattle.pl_unique.specs.declared.row_keys.Key.{Key}
+use Rattle.pl_unique.specs.RowKeys.{columns_of, undone_key}
+use Rattle.pl_unique.specs.RowKeyLaws.{columns_undone}
 use Rattle.pl_tables.specs.Rows.{Content}
-use Rattle.pl_tables.specs.Undo.{kept, undo_one}
-use Rattle.pl_tables.proofs.Kept.{gone_back, ordered_back}
+use Rattle.pl_tables.specs.Undo.{content, InStep, Kept}
+use Rattle.pl_tables.proofs.Steps.{all_back}
 use Rattle.pl_tables.proofs.table.Table.undo.Goals as goal
 
 pub invariant_of-self : goal.invariant_of-self
 invariant_of-self c =
-    let ss = c.self.inside.slots.items in
-    let next = c.self.inside.next in
-    let is : c.self.inside.changes.items ≡ c.pop.new.self.items ++ Added ∷ [] = c.in-Some-Added.ensures.items ∙ ap (λ (d : Change). c.pop.new.self.items ++ d ∷ []) c.in-Some-Added.field-0-is in
-    let new : kept c.pop_slot-self-inside.new.slots.items c.saturating_sub-self-inside.result ≡ undo_one Added (kept ss next) = ap (λ (xs : List Slot). kept xs c.saturating_sub-self-inside.result) c.pop_slot-self-inside.ensures.slots ∙ ap (λ (n : ℕ). record { slots = (undo_one Added (kept ss next)).slots; next = n }) c.saturating_sub-self-inside.ensures in
-    let both = ordered_back c.pop.new.self.items c.self.inside.changes.items Added (kept ss next) is (kept c.pop_slot-self-inside.new.slots.items c.saturating_sub-self-inside.result) new c.self.invariant.1 in
-    (both.0, both.1, c.pop_slot-self-inside.ensures.count)
+    let h = c.self.inside.heap in
+    let ks = c.self.inside.keys.items in
+    let all = c.self.invariant in
+    subst (λ (l : List Key). AllByRecursion (InStep c.undo.new.self) l) (sym c.undo_keys.ensures) (subst (λ (g : History Kept). AllByRecursion (InStep g) (map undone_key ks)) (sym c.undo.ensures.back) (all_back h ks all))
 
-pub invariant_of-self-in-Some-Changed : goal.invariant_of-self-in-Some-Changed
-invariant_of-self-in-Some-Changed c =
-    let ss = c.self.inside.slots.items in
-    let next = c.self.inside.next in
-    let change = Changed c.in-Some-Changed.at c.in-Some-Changed.row in
-    let is : c.self.inside.changes.items ≡ c.pop.new.self.items ++ change ∷ [] = c.in-Some-Changed.ensures.items ∙ ap (λ (d : Change). c.pop.new.self.items ++ d ∷ []) c.in-Some-Changed.field-0-is in
-    let new : kept c.restore-self-inside.new.slots.items next ≡ undo_one change (kept ss next) = ap (λ (xs : List Slot). kept xs next) c.restore-self-inside.ensures.slots in
-    let both = ordered_back c.pop.new.self.items c.self.inside.changes.items change (kept ss next) is (kept c.restore-self-inside.new.slots.items next) new c.self.invariant.1 in
-    (both.0, both.1, c.restore-self-inside.ensures.count)
-
-pub returns-in-Some-Added : goal.returns-in-Some-Added
-returns-in-Some-Added c =
-    let ss = c.self.inside.slots.items in
-    let next = c.self.inside.next in
-    let is : c.self.inside.changes.items ≡ c.pop.new.self.items ++ Added ∷ [] = c.in-Some-Added.ensures.items ∙ ap (λ (d : Change). c.pop.new.self.items ++ d ∷ []) c.in-Some-Added.field-0-is in
-    let new : kept c.pop_slot-self-inside.new.slots.items c.saturating_sub-self-inside.result ≡ undo_one Added (kept ss next) = ap (λ (xs : List Slot). kept xs c.saturating_sub-self-inside.result) c.pop_slot-self-inside.ensures.slots ∙ ap (λ (n : ℕ). record { slots = (undo_one Added (kept ss next)).slots; next = n }) c.saturating_sub-self-inside.ensures in
-    record { back = gone_back c.pop.new.self.items c.self.inside.changes.items Added (kept ss next) is (kept c.pop_slot-self-inside.new.slots.items c.saturating_sub-self-inside.result) new ∙ ap (λ (h : History Content). back h) c.self.view_is }
-
-pub returns-in-Some-Changed : goal.returns-in-Some-Changed
-returns-in-Some-Changed c =
-    let ss = c.self.inside.slots.items in
-    let next = c.self.inside.next in
-    let change = Changed c.in-Some-Changed.at c.in-Some-Changed.row in
-    let is : c.self.inside.changes.items ≡ c.pop.new.self.items ++ change ∷ [] = c.in-Some-Changed.ensures.items ∙ ap (λ (d : Change). c.pop.new.self.items ++ d ∷ []) c.in-Some-Changed.field-0-is in
-    let new : kept c.restore-self-inside.new.slots.items next ≡ undo_one change (kept ss next) = ap (λ (xs : List Slot). kept xs next) c.restore-self-inside.ensures.slots in
-    record { back = gone_back c.pop.new.self.items c.self.inside.changes.items change (kept ss next) is (kept c.restore-self-inside.new.slots.items next) new ∙ ap (λ (h : History Content). back h) c.self.view_is }
+pub returns : goal.returns
+returns c =
+    let h = c.self.inside.heap in
+    let ks = c.self.inside.keys.items in
+    let all = c.self.invariant in
+    record {
+      back = ap (λ (l : List Key). seen_as (content (columns_of l)) c.undo.new.self) c.undo_keys.ensures
+          ∙ (ap (λ (cs : List (List ℕ)). seen_as (content cs) c.undo.new.self) (columns_undone ks)
+          ∙ (ap (seen_as (content (columns_of ks))) c.undo.ensures.back ∙ (seen_back (content (columns_of ks)) h ∙ ap (λ (t : History Content). back t) c.self.view_is)));
+    }

@@ -1,15 +1,15 @@
 use Rattle.std.proofs.Common.{◌≡◌, ◌++◌, ◌∷◌, [], ◌∙◌, Option, Some, List, sym, ap, subst}
-use Rattle.std.specs.Prelude.{IsSome}
+use Rattle.std.specs.Prelude.{IsSome, slice_get}
 use Rattle.std.specs.List.{position}
 use Rattle.pl_base.specs.declared.value.Value.{Value}
 use Rattle.pl_history.specs.History.{History, changed, history, seen_as}
 use Rattle.pl_tables.specs.declared.tables.Place.{Place}
 use Rattle.pl_tables.specs.declared.tables.Step.{Step}
 use Rattle.pl_tables.specs.declared.tables.Step.TheVariants.{Changed}
-use Rattle.pl_tables.specs.Rows.{replaced}
-use Rattle.pl_tables.specs.Named.{Named, on_table, row_named}
-use Rattle.pl_tables.specs.Places.{there, is_at, undo_step}
-use Rattle.pl_tables.proofs.Finding.{row_found, row_absent, some_place, no_row, gone_on, there_changed, undone_change, within}
+use Rattle.pl_tables.specs.Rows.{replaced, Content}
+use Rattle.pl_tables.specs.Named.{content_named, on_table, row_named, HoldsIn, Named}
+use Rattle.pl_tables.specs.Places.{content_in, there, is_at, undo_step}
+use Rattle.pl_tables.proofs.Finding.{content_found, row_found, row_absent, some_place, no_row, gone_on, there_changed, undone_change, within}
 use Rattle.pl_tables.proofs.tables.Tables.replace.Goals as goal
 
 pub returns-in-Ok-clause-ok : goal.returns-in-Ok-clause-ok
@@ -43,6 +43,31 @@ replace_at-requires-clause-there c =
 
 pub returns-in-None-clause-ok : goal.returns-in-None-clause-ok
 returns-in-None-clause-ok c =
+    let ps = c.self.inside.places.items in
+    let p : c.place_of.result ≡ position (is_at c.args.name) ps = c.place_of.ensures ∙ ap (λ (l : List Place). position (is_at c.args.name) l) c.as_slice.ensures.value in
+    absurd (no_row (row_named c.args.name c.args.id (there ps)) (subst (λ (h : History (List Named)). IsSome (row_named c.args.name c.args.id h.current)) (sym c.self.view_is) c.requires.there) (row_absent c.args.name c.args.id ps (sym p ∙ c.in-None.is)))
+
+pub returns-in-Ok-clause-free : goal.returns-in-Ok-clause-free
+returns-in-Ok-clause-free c holder holds =
+    let ps = c.self.inside.places.items in
+    let at = c.in-Some.at in
+    let p : position (is_at c.args.name) ps ≡ Some at = sym (c.place_of.ensures ∙ ap (λ (l : List Place). position (is_at c.args.name) l) c.as_slice.ensures.value) ∙ c.in-Some.is in
+    let q = some_place ps at (within c.args.name ps at p) in
+    let same : content_named c.args.name c.args.self.now.current ≡ content_in (slice_get ps at) = sym (ap (λ (h : History (List Named)). content_named c.args.name h.current) c.self.view_is) ∙ content_found c.args.name ps at q.0 p q.1 in
+    c.in-Ok.ensures.free holder (subst (λ (o : Option Content). HoldsIn c.args.row holder o) same holds)
+
+pub returns-in-Err-clause-taken : goal.returns-in-Err-clause-taken
+returns-in-Err-clause-taken c holder e =
+    let ps = c.self.inside.places.items in
+    let at = c.in-Some.at in
+    let p : position (is_at c.args.name) ps ≡ Some at = sym (c.place_of.ensures ∙ ap (λ (l : List Place). position (is_at c.args.name) l) c.as_slice.ensures.value) ∙ c.in-Some.is in
+    let q = some_place ps at (within c.args.name ps at p) in
+    let same : content_named c.args.name c.args.self.now.current ≡ content_in (slice_get ps at) = sym (ap (λ (h : History (List Named)). content_named c.args.name h.current) c.self.view_is) ∙ content_found c.args.name ps at q.0 p q.1 in
+    let t = c.replace_at.ensures.taken holder (c.in-Err.is ∙ e) in
+    (t.0, subst (λ (o : Option Content). HoldsIn c.args.row holder o) (sym same) t.1)
+
+pub returns-in-None-clause-free : goal.returns-in-None-clause-free
+returns-in-None-clause-free c holder holds =
     let ps = c.self.inside.places.items in
     let p : c.place_of.result ≡ position (is_at c.args.name) ps = c.place_of.ensures ∙ ap (λ (l : List Place). position (is_at c.args.name) l) c.as_slice.ensures.value in
     absurd (no_row (row_named c.args.name c.args.id (there ps)) (subst (λ (h : History (List Named)). IsSome (row_named c.args.name c.args.id h.current)) (sym c.self.view_is) c.requires.there) (row_absent c.args.name c.args.id ps (sym p ∙ c.in-None.is)))

@@ -1,6 +1,7 @@
-use Rattle.std.proofs.Common.{◌∙◌, ap}
-use Rattle.pl_tables.specs.Named.{on_table}
+use Rattle.std.proofs.Common.{◌≡◌, sym, subst, ℕ, Result, OnOk, ◌∙◌, ap}
 use Rattle.pl_tables.specs.Rows.{replaced}
+use Rattle.pl_tables.specs.Named.{content_named, on_table, HoldsIn}
+use Rattle.pl_tables.specs.declared.table.TableFail.{TableFail}
 use Rattle.pl_undo.specs.Store.{Stored}
 use Rattle.pl_undo.proofs.Marks.{on_rising, on_marks, same_rising, kept_marks}
 use Rattle.pl_undo.proofs.store.Store.replace.Goals.{in-Ok, in-Err}
@@ -18,4 +19,12 @@ returns-clause-marks c =
     elim c.match-replace.branch [
       | in-Ok w ↦ on_marks c.self.inside.tables c.replace.new.self c.self.inside.starts.items c.self.invariant (on_table c.args.name (replaced c.args.id c.args.row) c.self.inside.tables.current) w.in-Ok.ensures.ok ∙ ap (λ (s : Stored). s.marks) c.self.view_is
       | in-Err w ↦ kept_marks c.self.inside.tables c.replace.new.self c.self.inside.starts.items c.self.invariant w.in-Err.ensures.err ∙ ap (λ (s : Stored). s.marks) c.self.view_is
+    ]
+
+pub returns-clause-free : goal.returns-clause-free
+returns-clause-free c =
+    elim c.match-replace.branch [
+      | in-Ok w ↦ subst (λ (r : Result (Unit {0}) TableFail). OnOk r ((holder : ℕ) → HoldsIn c.args.row holder (content_named c.args.name c.args.self.now.tables) → holder ≡ c.args.id)) (sym w.result-is)
+          (λ holder holds. w.in-Ok.ensures.free holder (subst (λ (s : Stored). HoldsIn c.args.row holder (content_named c.args.name s.tables)) (sym c.self.view_is) holds))
+      | in-Err w ↦ subst (λ (r : Result (Unit {0}) TableFail). OnOk r ((holder : ℕ) → HoldsIn c.args.row holder (content_named c.args.name c.args.self.now.tables) → holder ≡ c.args.id)) (sym w.result-is) tt
     ]

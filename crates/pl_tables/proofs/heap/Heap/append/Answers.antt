@@ -1,15 +1,13 @@
-use Rattle.std.proofs.Common.{◌≡◌, ◌+◌, ◌++◌, ◌∷◌, [], ◌∙◌, refl, Some, List, sym, ap, subst, ℕ, length, arith}
-use Rattle.pl_base.specs.declared.value.Value.{Value}
-use Rattle.pl_history.specs.History.{History, changed, history, seen_as}
+use Rattle.std.proofs.Common.{◌≡◌, ◌+◌, ◌++◌, ◌∷◌, [], ◌∙◌, refl, Some, List, sym, ap, subst, length, arith}
+use Rattle.pl_history.specs.History.{History, changed, history}
 use Rattle.pl_tables.specs.declared.slots.Slot.{Slot}
-use Rattle.pl_tables.specs.declared.table.Change.{Change}
-use Rattle.pl_tables.specs.declared.table.Change.TheVariants.{Added}
-use Rattle.pl_tables.specs.Rows.{Content, inserted}
+use Rattle.pl_tables.specs.declared.heap.Change.{Change}
+use Rattle.pl_tables.specs.declared.heap.Change.TheVariants.{Added}
 use Rattle.pl_tables.specs.Slots.{live, Rising}
-use Rattle.pl_tables.specs.Undo.{kept, content, undo_one}
-use Rattle.pl_tables.proofs.Living.{live_append, rising_append, count_popped}
+use Rattle.pl_tables.specs.Undo.{kept, undo_one, with_slot, Kept}
+use Rattle.pl_tables.proofs.Living.{rising_append, count_popped}
 use Rattle.pl_tables.proofs.Kept.{gone_on, ordered_on, back_added}
-use Rattle.pl_tables.proofs.table.Table.append.Goals as goal
+use Rattle.pl_tables.proofs.heap.Heap.append.Goals as goal
 
 pub invariant_of-self-2 : goal.invariant_of-self-2
 invariant_of-self-2 c =
@@ -36,7 +34,6 @@ returns-clause-ok c =
     let slots : c.push_reserved.new.self.items ≡ ss ++ s ∷ [] = c.push_reserved.ensures.items ∙ ap (λ (xs : List Slot). xs ++ s ∷ []) c.reserve-2.ensures.items in
     let is : c.push_reserved-2.new.self.items ≡ cs ++ Added ∷ [] = c.push_reserved-2.ensures.items ∙ ap (λ (ds : List Change). ds ++ Added ∷ []) c.reserve.ensures.items in
     let undone : undo_one Added (kept c.push_reserved.new.self.items (next + 1)) ≡ kept ss next = ap (λ (xs : List Slot). undo_one Added (kept xs (next + 1))) slots ∙ back_added ss s next in
-    let rows : live c.push_reserved.new.self.items ≡ live ss ++ (next, c.args.row) ∷ [] = ap live slots ∙ live_append ss s in
     gone_on cs c.push_reserved-2.new.self.items Added (kept ss next) (kept c.push_reserved.new.self.items (next + 1)) is undone
-    ∙ (ap (λ (xs : List (ℕ × List Value)). let k : Content = record { next = next + 1; rows = xs } in changed k (seen_as content (history undo_one cs (kept ss next)))) rows
-    ∙ ap (λ (h : History Content). changed (inserted c.args.row h.current) h) c.self.view_is)
+    ∙ (ap (λ (xs : List Slot). changed (kept xs (next + 1)) (history undo_one cs (kept ss next))) slots
+    ∙ ap (λ (h : History Kept). changed (with_slot c.args.row h.current) h) c.self.view_is)
