@@ -2,3 +2,5 @@ mod Lists
 mod Leaves
 mod Times
 mod Cases
+mod Numbers
+mod Truths

@@ -4,5 +4,6 @@ pub mod Combined
 pub mod Meaning
 pub mod Answers
 pub mod Operand
+pub mod Number
 pub mod NoRoutines
 pub mod Steps

@@ -3,9 +3,12 @@
 #![tactic(auto)]
 
 mod combined;
+mod comparison;
 mod expression;
+mod number;
 mod operand;
 mod operations;
+mod truth;
 mod world;
 
 pub use combined::{better, combine, is_in};

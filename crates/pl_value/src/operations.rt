@@ -10,9 +10,10 @@ ghost use Rattle.pl_calc.specs.Reading.{GivesTruth};
 ghost use Rattle.pl_calc.specs.Operators.{binary_value, unary_value};
 ghost use Rattle.pl_value.specs.Answers.{Reads};
 ghost use Rattle.pl_value.specs.Combined.{cast_through, equals, is_true, repeated};
-ghost use Rattle.pl_value.specs.Meaning.{is_fixed, joint, met, passed, true_of};
+ghost use Rattle.pl_value.specs.Meaning.{is_fixed, is_so, joint, met, passed, true_of};
 ghost use Rattle.pl_value.specs.Reading.{settled};
 
+use crate::number::{of_numbers, value_of};
 use crate::{Operand, Unsettled};
 use pl_base::{Comparison, Operator, State, Ty, Value};
 use pl_calc::{CalcFail, binary, cast, unary};
@@ -68,6 +69,21 @@ pub(crate) fn settle_truth<C>(outcome: Result<bool, CalcFail>) -> Result<bool, U
 /// An operator on two values.
 #[inline(never)]
 pub(crate) fn of_two<'a, C>(
+    alloc: Global,
+    operator: Operator,
+    x: &Value,
+    y: &Value,
+) -> Result<Operand<'a>, Unsettled>
+    ensures { (left : C) → Reads (settled (binary_value operator x.now y.now) left) result left }
+{
+    match of_numbers(operator, x, y) {
+        Some(number) => Ok(Operand::made(value_of(number))),
+        None => of_two_values::<C>(alloc, operator, x, y),
+    }
+}
+
+#[inline(never)]
+fn of_two_values<'a, C>(
     alloc: Global,
     operator: Operator,
     x: &Value,
@@ -175,6 +191,13 @@ pub(crate) fn passed(v: &Value) -> Result<bool, State>
         Value::Bool(truth) => Ok(*truth),
         _ => Err(State::DATATYPE_MISMATCH),
     }
+}
+
+/// A condition of this truth passes.
+pub(crate) fn is_so(truth: Option<bool>) -> bool
+    ensures { result ≡ is_so truth }
+{
+    truth == Some(true)
 }
 
 /// Whether the values are equal. 42883 where they can't be compared.
