@@ -13,7 +13,7 @@ use Rattle.pl_value.specs.Frames.{Frame}
 use Rattle.pl_value.specs.Meaning.{Calls, Sub, Step, value, pair, two, all_of, junction, step_read, steps_read}
 use Rattle.pl_value.specs.Reading.{Reading, got, settled, then_read}
 
-front : {A : Type 0} (xs : List A) (i : ℕ) (x : A) → i < length xs → x ≡ get_or xs i x → drop i xs ≡ x ∷ drop (i + 1) xs
+pub front : {A : Type 0} (xs : List A) (i : ℕ) (x : A) → i < length xs → x ≡ get_or xs i x → drop i xs ≡ x ∷ drop (i + 1) xs
 front xs i x lt is = rw (add-one, drop-cons xs i x lt, ← is) refl
 
 value_combined : {W : Type 0} (calls : Calls W) (sub : Sub W) (c : Combination) (ps : List RExpr) (frame : Frame) (w : W)

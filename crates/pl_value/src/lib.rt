@@ -8,6 +8,7 @@ mod expression;
 mod number;
 mod operand;
 mod operations;
+mod standing;
 mod truth;
 mod world;
 

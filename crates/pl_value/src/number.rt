@@ -12,7 +12,7 @@ ghost use Rattle.pl_value.specs.Number.{number_value};
 ghost use Rattle.pl_value.specs.Reading.{got};
 
 use crate::Lent;
-use crate::expression::cell_at;
+use crate::standing::cell_at;
 use pl_base::{Arithmetic, Operator, Value};
 use pl_calc::whole;
 use pl_resolved::{RChain, RExpr, RStep};
@@ -73,9 +73,9 @@ pub(crate) fn number_in<C>(e: &RExpr, frame: &[Lent<'_>], depth: usize) -> Optio
     }
 }
 
-// The same, of operators of one level.
+/// The same, of operators of one level.
 #[cycle(number)]
-fn chain_number<C>(chain: &RChain, frame: &[Lent<'_>], depth: usize) -> Option<Number>
+pub(crate) fn chain_number<C>(chain: &RChain, frame: &[Lent<'_>], depth: usize) -> Option<Number>
     ensures { IfSome result (λ n. (calls : Calls C) (sub : Sub C) (caller : C)
         → spec.chain calls sub chain.now (rows_of frame.now) caller
         ≡ got (number_value n) caller) }

@@ -1,7 +1,6 @@
 //! What is made of values that were read, by the tables of values.
 
-ghost use Rattle.std.specs.Prelude.{◌≡◌, true, Bool, Ok, Result};
-ghost use Rattle.std.specs.Option.{option_copied};
+ghost use Rattle.std.specs.Prelude.{◌≡◌, true, Bool, Ok, Result, Some};
 ghost use Rattle.pl_base.specs.declared.state.State.{State as AState};
 ghost use Rattle.pl_calc.specs.Answer.{Answer, Gives};
 ghost use Rattle.pl_calc.specs.Casts.{cast_to};
@@ -10,7 +9,7 @@ ghost use Rattle.pl_calc.specs.Reading.{GivesTruth};
 ghost use Rattle.pl_calc.specs.Operators.{binary_value, unary_value};
 ghost use Rattle.pl_value.specs.Answers.{Reads};
 ghost use Rattle.pl_value.specs.Combined.{cast_through, equals, is_true, repeated};
-ghost use Rattle.pl_value.specs.Meaning.{is_fixed, is_so, joint, met, passed, true_of};
+ghost use Rattle.pl_value.specs.Meaning.{is_fixed, is_so, joint, met, true_of};
 ghost use Rattle.pl_value.specs.Reading.{settled};
 
 use crate::number::{of_numbers, value_of};
@@ -45,17 +44,14 @@ pub(crate) fn settle_operand<'a, C>(
     }
 }
 
-/// Whether a WHEN of this value holds.
-pub(crate) fn is_met<C>(alloc: Global, x: Option<&Value>, v: &Value) -> Result<bool, Unsettled>
-    ensures { (left : C) → Reads (settled (met (option_copied x.entry) v.now) left) result left }
+/// Whether a WHEN of this value equals the operand of CASE.
+pub(crate) fn is_met<C>(alloc: Global, x: &Value, v: &Value) -> Result<bool, Unsettled>
+    ensures { (left : C) → Reads (settled (met (Some x.now) v.now) left) result left }
 {
-    match x {
-        None => settle_truth::<C>(passed(v).map_err(CalcFail::State)),
-        Some(x) => settle_truth::<C>(is_equal(alloc, x, v)),
-    }
+    settle_truth::<C>(is_equal(alloc, x, v))
 }
 
-pub(crate) fn settle_truth<C>(outcome: Result<bool, CalcFail>) -> Result<bool, Unsettled>
+fn settle_truth<C>(outcome: Result<bool, CalcFail>) -> Result<bool, Unsettled>
     ensures { (answer : Result Bool AState) (left : C) → GivesTruth outcome answer
         → Reads (settled answer left) result left }
 {
@@ -182,17 +178,6 @@ pub(crate) fn truth_of(v: &Value) -> Result<Option<bool>, State>
     }
 }
 
-/// Whether a condition of this value passes. 42804 where it is no truth.
-pub(crate) fn passed(v: &Value) -> Result<bool, State>
-    ensures { result ≡ passed v.now }
-{
-    match v {
-        Value::Null => Ok(false),
-        Value::Bool(truth) => Ok(*truth),
-        _ => Err(State::DATATYPE_MISMATCH),
-    }
-}
-
 /// A condition of this truth passes.
 pub(crate) fn is_so(truth: Option<bool>) -> bool
     ensures { result ≡ is_so truth }
@@ -201,7 +186,7 @@ pub(crate) fn is_so(truth: Option<bool>) -> bool
 }
 
 /// Whether the values are equal. 42883 where they can't be compared.
-pub(crate) fn is_equal(alloc: Global, x: &Value, v: &Value) -> Result<bool, CalcFail>
+fn is_equal(alloc: Global, x: &Value, v: &Value) -> Result<bool, CalcFail>
     ensures { GivesTruth result (true_of (equals x.now v.now)) }
 {
     let is_equal = binary(alloc, Operator::Compare(Comparison::Equal), x, v)?;

@@ -10,8 +10,8 @@ ghost use Rattle.pl_value.specs.Reading.{got};
 
 use crate::Lent;
 use crate::comparison::{numbers_hold, values_compared};
-use crate::expression::leaf;
 use crate::number::{NUMBER_DEPTH, number_in};
+use crate::standing::leaf;
 use pl_base::{Comparison, Operator};
 use pl_resolved::{RExpr, RPair};
 

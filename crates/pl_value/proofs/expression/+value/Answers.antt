@@ -1,14 +1,14 @@
-use Rattle.std.proofs.Common.{rules, sym, subst, ap, ◌∙◌, ◌+◌, map, drop}
-use Rattle.std.specs.Option.{option_copied}
+use Rattle.std.proofs.Common.{rules, sym, subst, ap, ◌∙◌, ◌+◌, map, drop, Bool, Option, Some}
 use Rattle.pl_base.specs.declared.value.Value.{Value}
 use Rattle.pl_value.specs.Answers.{Reads}
 use Rattle.pl_value.specs.Frames.{rows_of}
-use Rattle.pl_value.specs.Meaning.{value, step, step_read, steps_read}
-use Rattle.pl_value.specs.Reading.{Reading, then_read}
+use Rattle.pl_value.specs.Meaning.{is_so, value, step, step_read, steps_read, truth}
+use Rattle.pl_value.specs.Reading.{Reading, got, then_read}
 use Rattle.pl_value.specs.Steps.{stops}
 use Rattle.pl_value.proofs.Lists.{combined_is, call_is, row_is, and_is, or_is, binary_is, steps_here}
 use Rattle.pl_value.proofs.Leaves.{two_leaves, two_left}
 use Rattle.pl_value.proofs.Cases.{without_operand, with_operand, holds_by}
+use Rattle.pl_value.proofs.Truths.{and_truth, or_truth, passes_is, truth_gives}
 use Rattle.pl_value.proofs.expression.+value.Goals as goal
 
 pub value-returns-in-Binary : goal.value-returns-in-Binary
@@ -67,7 +67,37 @@ cased-returns-in_ok-x-in-Some g t c =
     with_operand g.C.Caller.calls (g.S.Subqueries.sub c.args.sub.now) c.args.case.now _ c.get.result.now _ c.get-in-Some.result.now (rows_of c.args.frame.now) c.args.caller.now c.value.new.caller c.converted-in-Some.new.caller c.converted-in-Some.result
     c.in-Some.is c.in_ok-x-in-Some.ensures c.converted-in-Some.ensures (search rules) (search rules)
 
-pub holds-returns : goal.holds-returns
-holds-returns g t c =
-    holds_by (value g.C.Caller.calls (g.S.Subqueries.sub c.args.sub.now) c.args.when.now) (option_copied c.args.x) _ c.get.result.now (rows_of c.args.frame.now) c.args.caller.now c.value.new.caller c.is_met.result
+pub meets-returns : goal.meets-returns
+meets-returns g t c =
+    holds_by (value g.C.Caller.calls (g.S.Subqueries.sub c.args.sub.now) c.args.when.now) (Some c.args.x.now) _ c.get.result.now (rows_of c.args.frame.now) c.args.caller.now c.value.new.caller c.is_met.result
     c.in_ok-v.ensures (search rules) (c.is_met.ensures c.value.new.caller)
+
+pub chained-returns-in-Some : goal.chained-returns-in-Some
+chained-returns-in-Some g t c =
+    c.in-Some.ensures g.C.Caller.calls (g.S.Subqueries.sub c.args.sub.now) c.args.caller.now
+    ∙ ap (λ (v : Value). got v c.args.caller.now) (sym (c.made.ensures ∙ c.value_of.ensures))
+
+pub truth-returns-in-And : goal.truth-returns-in-And
+truth-returns-in-And g t c = subst (λ (q : Reading _ (Option Bool)). Reads {A = Option Bool} q c.joined.result c.joined.new.caller)
+    (sym (and_truth g.C.Caller.calls (g.S.Subqueries.sub c.args.sub.now) c.args.part.now c.in-And.parts _ (rows_of c.args.frame.now) c.args.caller.now c.in-And.is c.as_slice.ensures)) c.joined.ensures
+
+pub truth-returns-in-Or : goal.truth-returns-in-Or
+truth-returns-in-Or g t c = subst (λ (q : Reading _ (Option Bool)). Reads {A = Option Bool} q c.joined-in-Or.result c.joined-in-Or.new.caller)
+    (sym (or_truth g.C.Caller.calls (g.S.Subqueries.sub c.args.sub.now) c.args.part.now c.in-Or.parts _ (rows_of c.args.frame.now) c.args.caller.now c.in-Or.is c.as_slice-in-Or.ensures)) c.joined-in-Or.ensures
+
+pub truth-returns-in-Some : goal.truth-returns-in-Some
+truth-returns-in-Some g t c =
+    truth_gives (value g.C.Caller.calls (g.S.Subqueries.sub c.args.sub.now) c.args.part.now) _ (rows_of c.args.frame.now) c.args.caller.now
+    (c.in-Some.ensures g.C.Caller.calls (g.S.Subqueries.sub c.args.sub.now) c.args.caller.now)
+
+pub passes-returns-in-Ok : goal.passes-returns-in-Ok
+passes-returns-in-Ok g t c =
+    passes_is (value g.C.Caller.calls (g.S.Subqueries.sub c.args.sub.now) c.args.condition.now) (rows_of c.args.frame.now) c.args.caller.now
+    ∙ (ap (λ (q : Reading _ (Option Bool)). then_read {A = Option Bool} {B = Bool} q (λ t w. got (is_so t) w)) c.in-Ok.ensures
+    ∙ ap (λ (b : Bool). got b c.truth.new.caller) (sym c.is_so.ensures))
+
+pub passes-returns-in-Err : goal.passes-returns-in-Err
+passes-returns-in-Err g t c =
+    stops {A = Option Bool} {B = Bool} _ (truth (value g.C.Caller.calls (g.S.Subqueries.sub c.args.sub.now) c.args.condition.now) (rows_of c.args.frame.now) c.args.caller.now)
+    (λ t w. got (is_so t) w) _ _
+    (passes_is (value g.C.Caller.calls (g.S.Subqueries.sub c.args.sub.now) c.args.condition.now) (rows_of c.args.frame.now) c.args.caller.now) c.in-Err.ensures
