@@ -13,8 +13,8 @@ use pl_base::{Comparison, Operator, Value};
 use pl_calc::compare;
 use std::cmp::Ordering;
 
-/// The truth of a comparison of two values, which is None where it is unknown. No truth at all where
-/// they have no order.
+/// The truth of a comparison of two values, which is None where it is unknown. No truth at all
+/// where they have no order.
 pub(crate) fn values_compared(comparison: Comparison, a: &Value, b: &Value) -> Option<Option<bool>>
     ensures { IfSome result (λ t. binary_value (Operator.Compare comparison) a.now b.now
         ≡ Ok (truth_value t)) }

@@ -1,6 +1,6 @@
 //! Expressions of most kinds, with the values that the manual gives them.
 
-use crate::{Lent, NoQueries, NoRoutines, Unsettled, value};
+use crate::{Lent, NoQueries, NoRoutines, Unsettled, passes, value};
 use pl_base::{Arithmetic, Boxed, Comparison, List, Operator, State, Ty, Value};
 use pl_resolved::{Combination, RArm, RCase, RChain, RExpr, RPair, RStep};
 use std::alloc::{AllocError, Global};
@@ -81,12 +81,37 @@ fn has_code(state: State, code: &[u8; 5]) -> bool {
     state.code == *code
 }
 
-// The same, and -3 for 42804, -4 for another failure.
+// The same; of a failure -3 for 42804, -6 for 22003, -7 for 22012, -4 for another.
 fn number(alloc: Global, e: Result<RExpr, AllocError>) -> i64 {
     match read(alloc, e) {
         Ok(number) => number,
-        Err(Unsettled::Fails(state)) => { if has_code(state, b"42804") { -3 } else { -4 } }
-        Err(Unsettled::Memory) => -5,
+        Err(unsettled) => number_of_failure(unsettled),
+    }
+}
+
+fn number_of_failure(unsettled: Unsettled) -> i64 {
+    match unsettled {
+        Unsettled::Fails(state) if has_code(state, b"42804") => -3,
+        Unsettled::Fails(state) if has_code(state, b"22003") => -6,
+        Unsettled::Fails(state) if has_code(state, b"22012") => -7,
+        Unsettled::Fails(_) => -4,
+        Unsettled::Memory => -5,
+    }
+}
+
+// Whether a condition passes over one row.
+fn passes_over_one(alloc: Global, e: Result<RExpr, AllocError>) -> Result<bool, Unsettled> {
+    let e = e?;
+    let cells = [Value::Int(5), Value::Int(7)];
+    let frame = [Lent { cells: &cells }];
+    passes(alloc, &e, &NoQueries, &frame, &mut NoRoutines)
+}
+
+// The same, as 1 or 0, or as the number of its failure.
+fn passed(alloc: Global, e: Result<RExpr, AllocError>) -> i64 {
+    match passes_over_one(alloc, e) {
+        Ok(passed) => i64::from(passed),
+        Err(unsettled) => number_of_failure(unsettled),
     }
 }
 
@@ -161,4 +186,181 @@ fn truths_stop_where_they_are_fixed(rt: HostRuntime) -> Result<(), Fail> {
         -3
     );
     Ok(())
+}
+
+/// An integer, a bigint or null.
+#[derive(Clone, Copy)]
+enum Term {
+    Int(i32),
+    Big(i64),
+    Null,
+}
+
+/// Operators on numbers, from the left, with the number that they give, and with 1 where it is
+/// above zero. A failure is given as by `number_of_failure`, null as 0.
+#[derive(Clone, Copy)]
+struct Calculation {
+    name: &'static str,
+    first: Term,
+    steps: &'static [(Arithmetic, Term)],
+    number: i64,
+    is_positive: i64,
+}
+
+const CALCULATIONS: [Calculation; 12] = [
+    Calculation {
+        name: "7 + 3 * 2, all from the left",
+        first: Term::Int(7),
+        steps: &[
+            (Arithmetic::Add, Term::Int(3)),
+            (Arithmetic::Multiply, Term::Int(2)),
+        ],
+        number: 20,
+        is_positive: 1,
+    },
+    Calculation {
+        name: "the first step has no integer",
+        first: Term::Int(i32::MAX),
+        steps: &[
+            (Arithmetic::Add, Term::Int(1)),
+            (Arithmetic::Subtract, Term::Int(1)),
+        ],
+        number: -6,
+        is_positive: -6,
+    },
+    Calculation {
+        name: "the last step has no integer",
+        first: Term::Int(65_536),
+        steps: &[
+            (Arithmetic::Subtract, Term::Int(1)),
+            (Arithmetic::Multiply, Term::Int(65_536)),
+        ],
+        number: -6,
+        is_positive: -6,
+    },
+    Calculation {
+        name: "a bigint holds what an integer doesn't",
+        first: Term::Int(i32::MAX),
+        steps: &[
+            (Arithmetic::Add, Term::Big(1)),
+            (Arithmetic::Add, Term::Int(1)),
+        ],
+        number: 2_147_483_649,
+        is_positive: 1,
+    },
+    Calculation {
+        name: "a bigint behind a step that has no integer",
+        first: Term::Int(i32::MAX),
+        steps: &[
+            (Arithmetic::Add, Term::Int(1)),
+            (Arithmetic::Add, Term::Big(1)),
+        ],
+        number: -6,
+        is_positive: -6,
+    },
+    Calculation {
+        name: "no bigint",
+        first: Term::Big(i64::MAX),
+        steps: &[(Arithmetic::Add, Term::Int(1))],
+        number: -6,
+        is_positive: -6,
+    },
+    Calculation {
+        name: "the least bigint by -1",
+        first: Term::Big(i64::MIN),
+        steps: &[(Arithmetic::Divide, Term::Int(-1))],
+        number: -6,
+        is_positive: -6,
+    },
+    Calculation {
+        name: "the least integer by -1 leaves nothing over",
+        first: Term::Int(i32::MIN),
+        steps: &[(Arithmetic::Remainder, Term::Int(-1))],
+        number: 0,
+        is_positive: 0,
+    },
+    Calculation {
+        name: "a quotient by zero",
+        first: Term::Int(7),
+        steps: &[
+            (Arithmetic::Add, Term::Big(1)),
+            (Arithmetic::Divide, Term::Int(0)),
+        ],
+        number: -7,
+        is_positive: -7,
+    },
+    Calculation {
+        name: "a remainder by zero",
+        first: Term::Big(7),
+        steps: &[(Arithmetic::Remainder, Term::Big(0))],
+        number: -7,
+        is_positive: -7,
+    },
+    Calculation {
+        name: "a null in front of a zero divisor",
+        first: Term::Null,
+        steps: &[(Arithmetic::Divide, Term::Int(0))],
+        number: 0,
+        is_positive: 0,
+    },
+    Calculation {
+        name: "a null behind a step that fails",
+        first: Term::Int(7),
+        steps: &[
+            (Arithmetic::Divide, Term::Int(0)),
+            (Arithmetic::Add, Term::Null),
+        ],
+        number: -7,
+        is_positive: -7,
+    },
+];
+
+fn constant(term: Term) -> RExpr {
+    RExpr::Constant(match term {
+        Term::Int(number) => Value::Int(number),
+        Term::Big(number) => Value::Big(number),
+        Term::Null => Value::Null,
+    })
+}
+
+fn chain_of(alloc: Global, case: &Calculation) -> Result<RExpr, AllocError> {
+    let mut steps = List::new(alloc);
+    for (operator, operand) in case.steps {
+        steps.push(RStep {
+            operator: Operator::Arithmetic(*operator),
+            operand: constant(*operand),
+        })?;
+    }
+    let first = constant(case.first);
+    Ok(RExpr::Chain(Boxed::new(alloc, RChain { first, steps })?))
+}
+
+// Whether what is calculated is above zero.
+fn is_positive(alloc: Global, case: &Calculation) -> Result<RExpr, AllocError> {
+    let first = chain_of(alloc, case)?;
+    let second = constant(Term::Int(0));
+    Ok(RExpr::Binary {
+        operator: Operator::Compare(Comparison::Greater),
+        operands: Boxed::new(alloc, RPair { first, second })?,
+    })
+}
+
+fn is_right(alloc: Global, case: &Calculation) -> bool {
+    number(alloc, chain_of(alloc, case)) == case.number
+        && passed(alloc, is_positive(alloc, case)) == case.is_positive
+}
+
+// The first calculation that gives another number.
+fn other(alloc: Global) -> Option<&'static str> {
+    for case in &CALCULATIONS {
+        if !is_right(alloc, case) {
+            return Some(case.name);
+        }
+    }
+    None
+}
+
+#[test]
+fn calculations_give_their_numbers(rt: HostRuntime) {
+    assert_eq!(rt; other(rt.alloc()), None);
 }

@@ -15,8 +15,8 @@ use crate::standing::leaf;
 use pl_base::{Comparison, Operator};
 use pl_resolved::{RExpr, RPair};
 
-/// The truth of the expression, which is None where it is unknown. No truth at all where it is to be
-/// read as a value.
+/// The truth of the expression, which is None where it is unknown. No truth at all where it is to
+/// be read as a value.
 pub(crate) fn truth_in<'a, C>(e: &'a RExpr, frame: &[Lent<'a>]) -> Option<Option<bool>>
     ensures { IfSome result (λ t. (calls : Calls C) (sub : Sub C) (caller : C)
         → spec.value calls sub e.now (rows_of frame.now) caller ≡ got (truth_value t) caller) }
