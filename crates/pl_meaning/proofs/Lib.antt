@@ -5,4 +5,7 @@ pub mod Plain
 pub mod OwnTexts
 pub mod Scripts
 pub mod Traces
+pub mod Sound
+pub mod Wholes
+pub mod Storable
 pub mod Lent

@@ -25,14 +25,17 @@ abbrev pub is_empty : {A : Type 0} → List A → Bool
 is_empty [] = true
 is_empty (x ∷ xs) = false
 
--- ---- CREATE TABLE without IF NOT EXISTS, of one column of the type integer without rules
+-- ---- CREATE TABLE without IF NOT EXISTS, of one column of the type integer without rules, of a
+-- table whose name can be stored
 
 abbrev pub is_integer : Ty → Bool
 is_integer type.Int = true
 is_integer ty = false
 
 abbrev pub column_of : List ℕ → Element → Option IntegerTable
-column_of table (element.Column column ty rules) = if is_integer ty && is_empty rules then Some (record { table = table; column = column }) else None
+column_of table (element.Column column ty rules) =
+    if is_integer ty && is_empty rules && is_table_name table
+    then Some (record { table = table; column = column }) else None
 column_of table (element.Rule name rule) = None
 
 abbrev pub one_column : List ℕ → List Element → Option IntegerTable

@@ -12,3 +12,4 @@ pub mod Selection
 pub mod Meaning
 pub mod Computed
 pub mod ExampleValues
+pub mod Whole

@@ -14,8 +14,8 @@ pub struct IntegerTable {
     pub column: Name,
 }
 
-/// The table that a definition with this text makes, where it is one that runs and the text is one
-/// that a store can hold, as each of a script is.
+/// The table that a definition with this text makes, where it is one that runs, and a store can
+/// hold the text and the table's name, as it can each of a script.
 pub fn table_by(definition: &Definition, source: &[u8]) -> Option<IntegerTable>
     ensures { result ≡ spec.table_by definition.now source.now }
 {
@@ -25,8 +25,8 @@ pub fn table_by(definition: &Definition, source: &[u8]) -> Option<IntegerTable>
     table_of(definition)
 }
 
-/// The table that a command makes: one column of the type integer, without rules, and no IF NOT
-/// EXISTS.
+/// The table that a command makes: one column of the type integer, without rules, no IF NOT EXISTS,
+/// and a name that a store can hold.
 pub fn table_in(command: &Command) -> Option<IntegerTable>
     ensures { result ≡ spec.table_in command.now }
 {
@@ -81,7 +81,8 @@ fn column_of(table: Name, element: &Element) -> Option<IntegerTable>
 {
     match element {
         Element::Column { name, ty, rules } => {
-            if is_integer(*ty) && has_none(rules.as_slice()) {
+            let is_plain = is_integer(*ty) && has_none(rules.as_slice());
+            if is_plain && is_table_name(table.as_bytes()) {
                 return Some(IntegerTable {
                     table,
                     column: *name,

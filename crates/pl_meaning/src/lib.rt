@@ -8,9 +8,11 @@ mod examples;
 mod form;
 mod reading;
 mod script;
+mod whole;
 
 pub use definition::{one_definition, read_definition, texts_mean_alike};
 pub use examples::examples_hold;
 pub use form::{IntegerTable, number_in, table_by};
 pub use reading::{Reading, one_reading, read_piece};
 pub use script::one_trace;
+pub use whole::{operations_keep_soundness, whole_leads_to_itself};
