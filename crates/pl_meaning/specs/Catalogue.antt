@@ -1,6 +1,5 @@
 -- What resolution sees of a database: its catalogue.
-use Rattle.std.specs.Prelude.{[], map, false, None}
-use Rattle.pl_catalog.specs.Objects.{Catalogue}
+use Rattle.std.specs.Prelude.{List, [], map, false, None}
 use Rattle.pl_catalog.specs.declared.object.Column.{Column as ColumnDef}
 use Rattle.pl_catalog.specs.declared.object.Object.{Object as Entry}
 use Rattle.pl_catalog.specs.declared.object.Object.TheVariants as entry
@@ -28,5 +27,5 @@ abbrev pub entry_of : Object → Entry
 entry_of (TableObject table) = entry.Table (table_def table)
 
 -- the objects in the order in which they were made
-abbrev pub catalogue_of : Database → Catalogue
-catalogue_of db = record { objects = map entry_of db }
+abbrev pub catalogue_of : Database → List Entry
+catalogue_of db = map entry_of db

@@ -2,7 +2,8 @@
 use Rattle.std.specs.Prelude.{ℕ, nat_lt, ◌^◌, List, [], map, Ok, Err, Bool, false, if◌then◌else◌}
 use Rattle.std.specs.Option.{option_map}
 use Rattle.pl_base.specs.declared.operator.Operator.TheVariants as operator
-use Rattle.pl_catalog.specs.Objects.{Catalogue, tables_in}
+use Rattle.pl_catalog.specs.Objects.{tables_in}
+use Rattle.pl_catalog.specs.declared.object.Object.{Object}
 use Rattle.pl_names.specs.Names.{Around, name_of, qualified_of, parameter_of}
 use Rattle.pl_names.specs.declared.scope.Scope.{Scope}
 use Rattle.pl_resolved.specs.declared.query.RQuery.{RQuery}
@@ -254,9 +255,9 @@ query_view q = record {
 -- ---- the theorem's two words
 
 -- outside of any query: behind the row of variables and parameters
-abbrev pub standing : Catalogue → Scope → Around
+abbrev pub standing : List Object → Scope → Around
 standing catalogue scope = record {
-  tables = tables_in catalogue.objects;
+  tables = tables_in catalogue;
   frames = scope.frames;
   params = scope.params;
   levels = [];
@@ -276,13 +277,13 @@ abbrev pub as_queries : Answer Inner → Resolved (List RQuery)
 as_queries (got x made) = Ok made.queries
 as_queries (fails state) = Err state
 
--- the expression, its type, and the queries inside it
-abbrev pub resolved_expr : Catalogue → Scope → Expr → Resolved ResolvedExpr
+-- the expression, its type, and the queries inside it, by the objects of the catalogue
+abbrev pub resolved_expr : List Object → Scope → Expr → Resolved ResolvedExpr
 resolved_expr catalogue scope e =
     as_expr ((part e).means (standing catalogue scope) nothing_made)
 
 -- the query, the last one behind all that are inside it
-abbrev pub resolved_query : Catalogue → Scope → Query → Resolved (List RQuery)
+abbrev pub resolved_query : List Object → Scope → Query → Resolved (List RQuery)
 resolved_query catalogue scope q = as_queries (query_part q (standing catalogue scope) nothing_made)
 
 abbrev pub written : Expr → Written

@@ -30,7 +30,7 @@ pub fn resolve_expr(
     scope: &Scope,
     e: &Expr,
 ) -> Result<ResolvedExpr, ScopeFail>
-    ensures { Gives result (spec.resolved_expr catalog.now scope.now e.now) }
+    ensures { Gives result (spec.resolved_expr catalog.now.objects scope.now e.now) }
 {
     let none: [Level<'_>; 0] = [];
     let mut made = Made::new(alloc);
@@ -53,7 +53,7 @@ pub fn resolve_query(
     scope: &Scope,
     q: &Query,
 ) -> Result<List<RQuery>, ScopeFail>
-    ensures { Gives result (spec.resolved_query catalog.now scope.now q.now) }
+    ensures { Gives result (spec.resolved_query catalog.now.objects scope.now q.now) }
 {
     let none: [Level<'_>; 0] = [];
     let mut made = Made::new(alloc);

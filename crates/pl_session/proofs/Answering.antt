@@ -1,6 +1,6 @@
 -- What a query answers once its names are resolved, and once its rows are read.
 use Rattle.std.proofs.Common.{◌≡◌, ◌∙◌, ℕ, List, sym, ap}
-use Rattle.pl_catalog.specs.Objects.{Catalogue}
+use Rattle.pl_catalog.specs.declared.object.Object.{Object}
 use Rattle.pl_meaning.specs.Catalogue.{catalogue_of}
 use Rattle.pl_meaning.specs.Database.{Database}
 use Rattle.pl_meaning.specs.Selection.{answered, answers, answers_once, around, heads_of, last_of, no_variables, selects, shows, table_rows}
@@ -16,7 +16,7 @@ use Rattle.pl_value.specs.NoRoutines.{unknown}
 use Rattle.pl_value.specs.Reading.{Reading, got}
 use Rattle.pl_value.specs.declared.world.NoRoutines.{NoRoutines}
 
-pub selects_by : (query : Query) (db : Database) (catalogue : Catalogue) (scope : Scope) (r : Resolved (List RQuery)) → catalogue ≡ catalogue_of db → scope ≡ no_variables → resolved_query catalogue scope query ≡ r
+pub selects_by : (query : Query) (db : Database) (catalogue : List Object) (scope : Scope) (r : Resolved (List RQuery)) → catalogue ≡ catalogue_of db → scope ≡ no_variables → resolved_query catalogue scope query ≡ r
     → selects query db ≡ answers_once r db
 unfolding selects
 selects_by query db catalogue scope r is_catalogue is_scope is =

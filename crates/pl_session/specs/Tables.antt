@@ -1,6 +1,6 @@
 -- What the tables in memory stand for.
 use Rattle.std.specs.Prelude.{◌≡◌, List, map, Bool, true, false, Option, Some, None}
-use Rattle.pl_catalog.specs.Objects.{Catalogue}
+use Rattle.pl_catalog.specs.declared.object.Object.{Object as Entry}
 use Rattle.pl_meaning.specs.Catalogue.{catalogue_of}
 use Rattle.pl_meaning.specs.Database.{Database, Object, TableObject, Table as TableValue, integer_column}
 use Rattle.pl_meaning.specs.Operation.{apply, define_by}
@@ -17,8 +17,8 @@ object_of table = TableObject (table_of table)
 abbrev pub database_of : List Table → Database
 database_of tables = map object_of tables
 
--- the catalogue of the tables
-abbrev pub catalogue_in : List Table → Catalogue
+-- the objects of the catalogue of the tables
+abbrev pub catalogue_in : List Table → List Entry
 catalogue_in tables = catalogue_of (database_of tables)
 
 -- done, and the new value is the one wanted; or none is wanted, and the old one stays

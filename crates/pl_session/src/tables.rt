@@ -1,9 +1,10 @@
 //! The database in memory.
 
 ghost use Rattle.std.specs.Prelude.{◌≡◌, ◌<◌, ◌^◌, ◌&&◌, ◌||◌, [], length, IfOk, nat_eq, nat_le, nat_lt};
-ghost use Rattle.std.specs.Coded.{Coded-set};
+ghost use Rattle.std.specs.Coded.{Coded-set, coded_list};
 ghost use Rattle.std.specs.List.{position};
 ghost use Rattle.std.specs.Cmp.Lexicographic.{pointwise};
+ghost use Rattle.pl_catalog.specs.contracts.object.Object as object;
 ghost use Rattle.pl_meaning.specs.Catalogue as catalogue;
 ghost use Rattle.pl_meaning.specs.Database as database;
 ghost use Rattle.pl_meaning.specs.Database.{empty_table, fits, has_row, integer_column, define, next_of};
@@ -163,7 +164,8 @@ pub struct Tables {
     alloc: Global,
     list: Vec<Table>,
     catalog: Catalog,
-    ghost in_step: { catalog ≡ catalogue_in list.items } by { Coded-set catalog-code catalog _ },
+    ghost in_step: { catalog.objects ≡ catalogue_in list.items }
+        by { Coded-set (coded_list object.the_row.coded) catalog.objects _ },
 }
 
 impl Tables {
@@ -180,7 +182,7 @@ impl Tables {
 
     /// The catalogue of the tables.
     pub fn catalog(&self) -> &Catalog
-        ensures { result.now ≡ catalogue_in self.now.list.items }
+        ensures { result.now.objects ≡ catalogue_in self.now.list.items }
     {
         &self.catalog
     }
