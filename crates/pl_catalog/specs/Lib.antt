@@ -1,3 +1,4 @@
 pub mod Dependents
+pub mod Entries
 pub mod Objects
 pub mod Refusals

@@ -10,9 +10,11 @@ use Rattle.pl_catalog.specs.declared.object.TableDef.{TableDef}
 use Rattle.pl_catalog.specs.declared.object.Which.{Which}
 use Rattle.pl_catalog.specs.declared.object.Which.TheVariants as which
 
--- the objects, in the order in which they were created
+-- the objects, in the order in which they were created, and those before each change that can be
+-- undone, the oldest first
 pub record Catalogue : Type 0 where
   pub objects : List Object
+  pub past : List (List Object)
 
 -- whether two names are the same
 abbrev pub is_same : List ℕ → List ℕ → Bool

@@ -1,16 +1,19 @@
 //! The objects and their names.
 
-ghost use Rattle.std.specs.Prelude.{◌≡◌, ◌<◌, ◌∷◌, ◌++◌, [], length, remove, OnOk, OnErr};
-ghost use Rattle.std.specs.List.{position};
+ghost use Rattle.std.specs.Prelude.{◌≡◌, ◌∷◌, ◌++◌, ◌-◌, [], length, take, OnOk, OnErr};
 ghost use Rattle.std.specs.Option.{option_copied};
-ghost use Rattle.pl_catalog.specs.Objects.{is_called, routine_named, routines_in};
+ghost use Rattle.pl_history.specs.History.{last_or};
+ghost use Rattle.pl_catalog.specs.Objects.{routine_named, routines_in};
 ghost use Rattle.pl_catalog.specs.Objects.{table_named, tables_in, which_of, without};
 ghost use Rattle.pl_catalog.specs.Refusals.{Answers, add_refusal, drop_refusal};
 
 use crate::dependents::first_dependent;
+use crate::entries::{
+    Entry, Step, bring_back, place_of, pop_entry, purge, routine_among, table_among, take_out,
+};
 use crate::{Object, Routine, TableDef, Which};
 use pl_base::{Held, Name};
-use std::alloc::Global;
+use std::alloc::{AllocError, Global};
 use std::marker::Model;
 
 /// Why the catalogue isn't changed.
@@ -25,14 +28,29 @@ pub enum CatalogFail {
     Memory,
 }
 
-/// The objects in the order in which they were created.
+impl From<AllocError> for CatalogFail {
+    ghost use Rattle.std.specs.Prelude.{◌≡◌};
+    ghost use Rattle.pl_catalog.specs.declared.catalog.CatalogFail.TheVariants.{Memory};
+
+    ghost from_gives = { λ _ fail. fail ≡ Memory };
+
+    fn from(_: AllocError) -> Self {
+        CatalogFail::Memory
+    }
+}
+
+/// The objects in the order in which they were created, and what is needed to undo changes.
 #[derive(Drop)]
 pub struct Catalog {
-    objects: Vec<Object>,
+    entries: Vec<Entry>,
+    steps: Vec<Step>,
 }
 
 impl Model for Catalog {
+    ghost use Rattle.std.specs.Prelude.{map};
     ghost use Rattle.std.specs.Coded.{codes};
+    ghost use Rattle.pl_history.specs.History.{past_of};
+    ghost use Rattle.pl_catalog.specs.Entries.{there, undo_step};
     ghost use Rattle.pl_catalog.specs.Objects.{Catalogue};
     ghost use Rattle.pl_catalog.specs.contracts.object.Object as object;
 
@@ -40,50 +58,64 @@ impl Model for Catalog {
 
     ghost coded = { Prim.hlevel (codes, object.the_row.coded) };
 
-    ghost view = { λ c. record { objects = c.objects.items } };
+    ghost view = { λ c. record {
+      objects = there c.entries.items;
+      past = map there (past_of undo_step c.steps.items c.entries.items);
+    } };
 }
 
 impl Catalog {
     /// A catalogue without objects.
     pub fn new(alloc: Global) -> Catalog
-        ensures { result.objects ≡ [] }
+        ensures objects { result.objects ≡ [] }
+        ensures past { result.past ≡ [] }
     {
         Catalog {
-            objects: Vec::new(alloc),
+            entries: Vec::new(alloc),
+            steps: Vec::new(alloc),
         }
+    }
+
+    /// How many changes can be undone.
+    pub fn changes(&self) -> usize
+        ensures { result ≡ length self.now.past }
+    {
+        self.steps.len()
     }
 
     /// The table of this name. None where there is none.
     pub fn table(&self, name: Name) -> Option<&TableDef>
         ensures { option_copied result ≡ table_named name (tables_in self.now.objects) }
     {
-        table_among(self.objects.as_slice(), name)
+        table_among(self.entries.as_slice(), name)
     }
 
     /// The routine of this name. None where there is none.
     pub fn routine(&self, name: Name) -> Option<&Routine>
         ensures { option_copied result ≡ routine_named name (routines_in self.now.objects) }
     {
-        routine_among(self.objects.as_slice(), name)
+        routine_among(self.entries.as_slice(), name)
     }
 
     /// Adds the object behind the others. Taken where one of its kind has its name.
     pub fn add(&mut self, object: Object) -> Result<(), CatalogFail>
         ensures answers { Answers result (add_refusal (which_of object) self.old.objects) }
         ensures ok { OnOk result (self.new.objects ≡ self.old.objects ++ object ∷ []) }
+        ensures past { OnOk result (self.new.past ≡ self.old.past ++ self.old.objects ∷ []) }
         ensures err { OnErr result (self.new ≡ self.old) }
     {
         let object = Held::new(object);
-        if place_of(self.objects.as_slice(), &object.get().which()).is_some() {
+        if place_of(self.entries.as_slice(), &object.get().which()).is_some() {
             return Err(CatalogFail::Taken);
         }
-        match self.objects.reserve(1) {
-            Ok(()) => {
-                self.objects.push_reserved(object.into_inner());
-                Ok(())
-            }
-            Err(_) => Err(CatalogFail::Memory),
-        }
+        self.steps.reserve(1)?;
+        self.entries.reserve(1)?;
+        self.entries.push_reserved(Entry {
+            object: object.into_inner(),
+            is_there: true,
+        });
+        self.steps.push_reserved(Step::Added);
+        Ok(())
     }
 
     /// Takes out this one object; a table's triggers stay. Absent where it isn't there, Dependent
@@ -91,58 +123,41 @@ impl Catalog {
     pub fn drop_object(&mut self, which: Which) -> Result<(), CatalogFail>
         ensures answers { Answers result (drop_refusal which self.old.objects) }
         ensures ok { OnOk result (self.new.objects ≡ without which self.old.objects) }
+        ensures past { OnOk result (self.new.past ≡ self.old.past ++ self.old.objects ∷ []) }
         ensures err { OnErr result (self.new ≡ self.old) }
     {
-        match place_of(self.objects.as_slice(), &which) {
+        match place_of(self.entries.as_slice(), &which) {
             None => Err(CatalogFail::Absent),
-            Some(at) => match first_dependent(self.objects.as_slice(), &which) {
+            Some(at) => match first_dependent(self.entries.as_slice(), &which) {
                 Some(name) => Err(CatalogFail::Dependent { name }),
                 None => {
-                    remove_at(&mut self.objects, at);
+                    self.steps.reserve(1)?;
+                    take_out(&mut self.entries, at);
+                    self.steps.push_reserved(Step::Dropped(at));
                     Ok(())
                 }
             },
         }
     }
-}
 
-fn remove_at(objects: &mut Vec<Object>, at: usize)
-    requires { at < length objects.old.items }
-    ensures { objects.new.items ≡ remove objects.old.items at }
-{
-    objects.remove(at);
-}
-
-fn place_of(objects: &[Object], which: &Which) -> Option<usize>
-    ensures { result ≡ position (is_called which.now) objects.now }
-{
-    objects.iter().position(|object| object.is_called(which))
-}
-
-fn table_among(mut objects: &[Object], name: Name) -> Option<&TableDef>
-    ensures { option_copied result ≡ table_named name (tables_in objects.entry.now) }
-{
-    while let [object, rest @ ..] = objects {
-        if let Object::Table(table) = object {
-            if table.name == name {
-                return Some(table);
-            }
+    /// Undoes the newest change, if there is one.
+    pub fn undo(&mut self)
+        ensures objects { self.new.objects ≡ last_or self.old.objects self.old.past }
+        ensures past { self.new.past ≡ take (length self.old.past - 1) self.old.past }
+    {
+        match self.steps.pop() {
+            Some(Step::Added) => pop_entry(&mut self.entries),
+            Some(Step::Dropped(at)) => bring_back(&mut self.entries, at),
+            None => {}
         }
-        objects = rest;
     }
-    None
-}
 
-fn routine_among(mut objects: &[Object], name: Name) -> Option<&Routine>
-    ensures { option_copied result ≡ routine_named name (routines_in objects.entry.now) }
-{
-    while let [object, rest @ ..] = objects {
-        if let Object::Routine(routine) = object {
-            if routine.name == name {
-                return Some(routine);
-            }
-        }
-        objects = rest;
+    /// No change can be undone from now on. Frees what was dropped.
+    pub fn forget(&mut self)
+        ensures objects { self.new.objects ≡ self.old.objects }
+        ensures past { self.new.past ≡ [] }
+    {
+        self.steps.clear();
+        purge(&mut self.entries);
     }
-    None
 }

@@ -3,20 +3,22 @@
 ghost use Rattle.std.specs.Prelude.{◌≡◌};
 ghost use Rattle.pl_catalog.specs.Dependents.{depends, first_dependent, gives_row_of, has_row_of};
 ghost use Rattle.pl_catalog.specs.Dependents.{is_row_of, refers_to, takes_row_of};
+ghost use Rattle.pl_catalog.specs.Entries.{there};
 
+use crate::entries::Entry;
 use crate::{Object, Routine, Rule, RuleKind, Which};
 use pl_base::{Name, Ty};
 use pl_tree::{Param, ResultType};
 
 /// The name of the first object that needs this one. None where no object does.
-pub(crate) fn first_dependent(mut objects: &[Object], which: &Which) -> Option<Name>
-    ensures { result ≡ first_dependent which.now objects.entry.now }
+pub(crate) fn first_dependent(mut entries: &[Entry], which: &Which) -> Option<Name>
+    ensures { result ≡ first_dependent which.now (there entries.entry.now) }
 {
-    while let [object, rest @ ..] = objects {
-        if depends(object, which) {
-            return Some(object.name());
+    while let [entry, rest @ ..] = entries {
+        if entry.is_there && depends(&entry.object, which) {
+            return Some(entry.object.name());
         }
-        objects = rest;
+        entries = rest;
     }
     None
 }

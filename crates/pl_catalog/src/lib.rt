@@ -3,6 +3,7 @@
 
 mod catalog;
 mod dependents;
+mod entries;
 mod object;
 
 pub use catalog::{Catalog, CatalogFail};

@@ -134,3 +134,23 @@ fn an_object_is_called_by_what_finds_it(rt: HostRuntime) -> Result<(), Fail> {
     assert!(rt; !object.is_called(&Which::Routine(g)));
     Ok(())
 }
+
+#[test]
+fn dropped_objects_come_back(rt: HostRuntime) -> Result<(), Fail> {
+    let mut catalog = filled(rt.alloc())?;
+    let (t, f, g) = (named("t")?, named("f")?, named("g")?);
+    let trigger = Which::Trigger { table: t, name: g };
+    assert_eq!(rt; catalog.changes(), 3);
+    assert!(rt; refusal(&mut catalog, trigger).is_none());
+    assert!(rt; refusal(&mut catalog, Which::Routine(f)).is_none());
+    catalog.undo();
+    assert!(rt; catalog.routine(f).is_some());
+    catalog.undo();
+    assert!(rt; refusal(&mut catalog, Which::Routine(f)).is_some());
+    assert_eq!(rt; catalog.changes(), 3);
+    catalog.forget();
+    assert_eq!(rt; catalog.changes(), 0);
+    catalog.undo();
+    assert!(rt; catalog.table(t).is_some());
+    Ok(())
+}
