@@ -1,4 +1,5 @@
 pub mod Answers
+pub mod Named
 pub mod Parts
 pub mod Steps
 pub mod Expressions

@@ -1,5 +1,6 @@
 -- The steps of queries that read no part: PostgreSQL manual, "SELECT".
 use Rattle.std.specs.Prelude.{bytes_eq, slice_get}
+use Rattle.std.specs.List.{list_all}
 use Rattle.std.specs.Prelude.{length, Option, Some, None, Ok, Err, Bool, true, false, if◌then◌else◌}
 use Rattle.std.specs.Prelude.{ℕ, zero, suc, ◌+◌, ◌&&◌, ◌||◌, not, nat_lt, is_some, List, [], ◌∷◌, ◌++◌}
 use Rattle.pl_base.specs.States.{INVALID_COLUMN_REFERENCE, AMBIGUOUS_COLUMN, GROUPING_ERROR}
@@ -132,26 +133,24 @@ alike (Some x) (Some y) = same x y
 alike (Some x) None = false
 alike None other = false
 
--- one more column of the name: it has to be the same expression as the one before it
-abbrev pub with_named : Bool → ℕ → List RExpr → Option ℕ → Resolved (Option ℕ)
-with_named false at values found = Ok found
-with_named true at values None = Ok (Some at)
-with_named true at values (Some place) =
-    if alike (slice_get values place) (slice_get values at) then Ok (Some place)
-    else Err AMBIGUOUS_COLUMN
+-- the places of the columns of this name, where the first column stands at this place
+abbrev pub places_named : Name → ℕ → List Head → List ℕ
+places_named x at [] = []
+places_named x at (h ∷ hs) =
+    if bytes_eq h.name x then at ∷ places_named x (at + 1) hs else places_named x (at + 1) hs
 
--- the first column of this name, where each of them is the same expression
-abbrev pub named_on : Name → ℕ → List Head → List RExpr → Option ℕ → Resolved (Option ℕ)
-named_on x at [] values found = Ok found
-named_on x at (h ∷ hs) values found =
-    with_named (bytes_eq h.name x) at values found >>= (λ found.
-    named_on x (at + 1) hs values found)
+-- the first place, if the same expression stands at all of them
+abbrev pub one_of : List RExpr → List ℕ → Resolved (Option ℕ)
+one_of values [] = Ok None
+one_of values (at ∷ more) =
+    if list_all (λ place. alike (slice_get values at) (slice_get values place)) more
+    then Ok (Some at) else Err AMBIGUOUS_COLUMN
 
 -- the output column that a key means as it is written, if it means one
 unfoldable pub output_of : Written → List Head → List RExpr → Resolved (Option ℕ)
 output_of (Number is_negative n) heads values =
     place_at is_negative n (length heads) >>= (λ at. Ok (Some at))
-output_of (Called x) heads values = named_on x 0 heads values None
+output_of (Called x) heads values = one_of values (places_named x 0 heads)
 output_of Constant heads values = Err SYNTAX_ERROR
 output_of Other heads values = Ok None
 

@@ -1,6 +1,6 @@
 //! The end of a query, where all its clauses have been read.
 
-ghost use Rattle.std.specs.Prelude.{◌≡◌, IfOk};
+ghost use Rattle.std.specs.Prelude.{◌≡◌, ◌||◌, not, IfOk};
 ghost use Rattle.pl_scope.specs.Answers.{Meets};
 ghost use Rattle.pl_scope.specs.Steps as spec;
 
@@ -50,10 +50,21 @@ pub struct Clauses {
     pub offset: Option<Boxed<RExpr>>,
 }
 
+fn has_groups(keys: &[RExpr], has_having: bool, aggregates: &[RAggregate]) -> bool
+    ensures { result ≡ (not (spec.is_empty keys.now) || has_having
+        || not (spec.is_empty aggregates.now)) }
+{
+    !keys.is_empty() || has_having || !aggregates.is_empty()
+}
+
 fn is_grouped(clauses: &Clauses, aggregates: &[RAggregate]) -> bool
     ensures { result ≡ spec.is_grouped clauses.now aggregates.now }
 {
-    !clauses.keys.as_slice().is_empty() || clauses.having.is_some() || !aggregates.is_empty()
+    has_groups(
+        clauses.keys.as_slice(),
+        clauses.having.is_some(),
+        aggregates,
+    )
 }
 
 fn reads_maybe(

@@ -1,6 +1,7 @@
 //! Aggregates, each of them once in its query.
 
-ghost use Rattle.std.specs.Prelude.{◌≡◌, codes, IfOk};
+ghost use Rattle.std.specs.Prelude.{◌≡◌, ◌&&◌, [], codes, not, IfOk};
+ghost use Rattle.pl_grouping.specs.Reading.{reads_any};
 ghost use Rattle.pl_names.specs.Names.{around};
 ghost use Rattle.pl_scope.specs.Answers.{Meets, settled, then_answer};
 ghost use Rattle.pl_scope.specs.Expressions as spec;
@@ -10,7 +11,7 @@ use crate::Made;
 use pl_base::{Boxed, Name, State, Ty};
 use pl_grouping::{aggregate_place, reads_any};
 use pl_names::Names;
-use pl_resolved::{Aggregate, RAggregate, RExpr};
+use pl_resolved::{Aggregate, RAggregate, RExpr, RQuery};
 use pl_typing::{Arguments, ScopeFail, Typed, TypedAggregate, aggregated};
 use std::alloc::{AllocError, Global};
 
@@ -34,6 +35,25 @@ fn aggregate_at(
     })
 }
 
+// Whether they read a row before `own`, and none from there on.
+fn reads_outer_alone(
+    alloc: Global,
+    arguments: &[RExpr],
+    queries: &[RQuery],
+    since: usize,
+    own: usize,
+    end: usize,
+) -> Result<bool, AllocError>
+    ensures { IfOk result (λ does. does ≡ (reads_any [] queries.now since 1 own arguments.now
+        && not (reads_any [] queries.now since own end arguments.now))) }
+{
+    let none: [RExpr; 0] = [];
+    if !reads_any(alloc, &none, queries, since, 1, own, arguments)? {
+        return Ok(false);
+    }
+    Ok(!reads_any(alloc, &none, queries, since, own, end, arguments)?)
+}
+
 fn is_of_outer(
     alloc: Global,
     aggregate: &RAggregate,
@@ -44,16 +64,14 @@ fn is_of_outer(
     ensures { IfOk result (λ is. is ≡ spec.is_of_outer aggregate.now since (around names.now)
         made.now) }
 {
-    let none: [RExpr; 0] = [];
-    let queries = made.queries.as_slice();
-    let arguments = aggregate.arguments.as_slice();
-    let own = names.aggregates_row;
-    let reads_outer = reads_any(alloc, &none, queries, since, 1, own, arguments)?;
-    if !reads_outer {
-        return Ok(false);
-    }
-    let reads_own = reads_any(alloc, &none, queries, since, own, names.next_row, arguments)?;
-    Ok(!reads_own)
+    reads_outer_alone(
+        alloc,
+        aggregate.arguments.as_slice(),
+        made.queries.as_slice(),
+        since,
+        names.aggregates_row,
+        names.next_row,
+    )
 }
 
 fn collected_by(

@@ -1,14 +1,19 @@
 //! Expressions, part by part.
 
-ghost use Rattle.std.specs.Prelude.{[], map, None};
+ghost use Rattle.std.specs.Prelude.{[], map, None, Ok};
 ghost use Rattle.std.specs.Option.{option_map};
 ghost use Rattle.pl_names.specs.Names.{around};
 ghost use Rattle.pl_scope.specs.Answers.{Meets};
 ghost use Rattle.pl_scope.specs.Expressions as spec;
 ghost use Rattle.pl_scope.specs.Resolution as tree;
+ghost use Rattle.pl_resolved.specs.declared.expression.RExpr.TheVariants as resolved;
+ghost use Rattle.pl_typing.specs.Calls as calls;
 ghost use Rattle.pl_typing.specs.Calls.{no_arguments};
 ghost use Rattle.pl_typing.specs.Cases.{no_arms};
+ghost use Rattle.pl_typing.specs.Operators as operators;
 ghost use Rattle.pl_typing.specs.Resolved.{Gives};
+ghost use Rattle.pl_typing.specs.Subqueries as subqueries;
+ghost use Rattle.pl_typing.specs.Typing as typing;
 
 use crate::Made;
 use crate::casting::cast_known;
@@ -25,6 +30,36 @@ use pl_typing::{
     operand_type, picked, row, scalar, signed, tested, tree_of, truth, truth_of,
 };
 use std::alloc::Global;
+
+fn exists_of(alloc: Global, query: usize) -> Result<Typed, ScopeFail>
+    ensures { Gives result (Ok (subqueries.exists query)) }
+{
+    Ok(exists(alloc, query)?)
+}
+
+fn row_of(alloc: Global, fields: Arguments) -> Result<Typed, ScopeFail>
+    ensures { Gives result (Ok (calls.row_of fields)) }
+{
+    Ok(row(alloc, fields)?)
+}
+
+fn chain_of(alloc: Global, run: Run) -> Result<Typed, ScopeFail>
+    ensures { Gives result (Ok (operators.ended run)) }
+{
+    Ok(run.end(alloc)?)
+}
+
+fn and_of(alloc: Global, list: List<RExpr>) -> Result<Typed, ScopeFail>
+    ensures { Gives result (Ok (typing.truth_of (resolved.And list))) }
+{
+    Ok(truth_of(alloc, RExpr::And(list))?)
+}
+
+fn or_of(alloc: Global, list: List<RExpr>) -> Result<Typed, ScopeFail>
+    ensures { Gives result (Ok (typing.truth_of (resolved.Or list))) }
+{
+    Ok(truth_of(alloc, RExpr::Or(list))?)
+}
 
 #[cycle(resolving)]
 #[tactic(auto, using(crate::proofs::Equations::equations))]
@@ -44,7 +79,7 @@ pub fn expr(alloc: Global, e: &Expr, names: &Names<'_>, made: &mut Made) -> Resu
         }
         Expr::Exists(inner) => {
             let inner = query(alloc, inner.get(), names, made)?;
-            Ok(exists(alloc, inner.number)?)
+            exists_of(alloc, inner.number)
         }
         Expr::Pick { pick, list } => {
             let all = listed_on(alloc, list.as_slice(), Listed::new(alloc), names, made)?;
@@ -57,7 +92,7 @@ pub fn expr(alloc: Global, e: &Expr, names: &Names<'_>, made: &mut Made) -> Resu
         }
         Expr::Row(list) => {
             let all = fields_on(alloc, list.as_slice(), names, made)?;
-            Ok(row(alloc, all)?)
+            row_of(alloc, all)
         }
         Expr::Case {
             operand,
@@ -81,12 +116,14 @@ pub fn expr(alloc: Global, e: &Expr, names: &Names<'_>, made: &mut Made) -> Resu
         Expr::Product { first, factors } => {
             let first = expr(alloc, first.get(), names, made)?;
             let run = Run::new(alloc, first);
-            Ok(factors_on(alloc, factors.as_slice(), run, names, made)?.end(alloc)?)
+            let done = factors_on(alloc, factors.as_slice(), run, names, made)?;
+            chain_of(alloc, done)
         }
         Expr::Sum { first, terms } => {
             let first = expr(alloc, first.get(), names, made)?;
             let run = Run::new(alloc, first);
-            Ok(terms_on(alloc, terms.as_slice(), run, names, made)?.end(alloc)?)
+            let done = terms_on(alloc, terms.as_slice(), run, names, made)?;
+            chain_of(alloc, done)
         }
         Expr::Concat(list) => {
             let done = concat_on(alloc, list.as_slice(), names, made)?;
@@ -169,11 +206,11 @@ pub fn expr(alloc: Global, e: &Expr, names: &Names<'_>, made: &mut Made) -> Resu
         }
         Expr::And(list) => {
             let list = conditions(alloc, list.as_slice(), names, made)?;
-            Ok(truth_of(alloc, RExpr::And(list))?)
+            and_of(alloc, list)
         }
         Expr::Or(list) => {
             let list = conditions(alloc, list.as_slice(), names, made)?;
-            Ok(truth_of(alloc, RExpr::Or(list))?)
+            or_of(alloc, list)
         }
     }
 }

@@ -2,6 +2,7 @@
 
 ghost use Rattle.std.specs.Prelude.{◌≡◌, IfOk};
 ghost use Rattle.std.specs.Option.{option_copied};
+ghost use Rattle.pl_scope.specs.Named.{with_named};
 ghost use Rattle.pl_scope.specs.Steps as spec;
 ghost use Rattle.pl_typing.specs.Resolved.{Gives};
 
@@ -48,7 +49,7 @@ fn with_named(
     values: &[RExpr],
     found: Option<usize>,
 ) -> Result<Option<usize>, ScopeFail>
-    ensures { Gives result (spec.with_named is_named at values.now found) }
+    ensures { Gives result (with_named is_named at values.now found) }
 {
     if !is_named {
         return Ok(found);
@@ -65,8 +66,9 @@ fn with_named(
     }
 }
 
+#[tactic(auto, using(crate::specs::Named::one_more, crate::specs::Named::another))]
 fn named_on(name: Name, heads: &[Head], values: &[RExpr]) -> Result<Option<usize>, ScopeFail>
-    ensures { Gives result (spec.named_on name 0 heads.now values.now None) }
+    ensures { Gives result (spec.one_of values.now (spec.places_named name 0 heads.now)) }
 {
     let mut found = None;
     let mut at = 0;

@@ -164,8 +164,7 @@ pub struct Tables {
     alloc: Global,
     list: Vec<Table>,
     catalog: Catalog,
-    ghost in_step: { catalog.objects ≡ catalogue_in list.items }
-        by { Coded-set (coded_list object.the_row.coded) catalog.objects _ },
+    ghost in_step: { catalog.objects ≡ catalogue_in list.items } by { Coded-set (coded_list object.the_row.coded) catalog.objects _ },
 }
 
 impl Tables {

@@ -16,8 +16,8 @@ fn explain_problem(rt: &HostRuntime, problem: Option<Problem>, name: &str) -> io
     }
 }
 
-// Says what failed. Of words and a script that are refused, and of a damaged store, the output has a
-// line already.
+// Says what failed. Of words and a script that are refused, and of a damaged store, the output has
+// a line already.
 fn explain(
     rt: &HostRuntime,
     ending: Ending,

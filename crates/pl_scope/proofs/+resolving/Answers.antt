@@ -26,11 +26,11 @@ expressions::expr-returns-in_err-otherwise-in-Case t c = rw (c.in-Case.is, part_
 pub expressions::expr-returns-in_err-operand-in-Signed : goal.expressions::expr-returns-in_err-operand-in-Signed
 expressions::expr-returns-in_err-operand-in-Signed t c = rw (c.in-Signed.is, part_signed) (first_of (search rules, grind (arith, common_steps)))
 
-pub expressions::expr-returns-in_err-factors_on-in-Product : goal.expressions::expr-returns-in_err-factors_on-in-Product
-expressions::expr-returns-in_err-factors_on-in-Product t c = rw (c.in-Product.is, part_product_view) (first_of (search rules, grind (arith, common_steps)))
+pub expressions::expr-returns-in_err-done-in-Product : goal.expressions::expr-returns-in_err-done-in-Product
+expressions::expr-returns-in_err-done-in-Product t c = rw (c.in-Product.is, part_product_view) (first_of (search rules, grind (arith, common_steps)))
 
-pub expressions::expr-returns-in_err-terms_on-in-Sum : goal.expressions::expr-returns-in_err-terms_on-in-Sum
-expressions::expr-returns-in_err-terms_on-in-Sum t c = rw (c.in-Sum.is, part_sum_view) (first_of (search rules, grind (arith, common_steps)))
+pub expressions::expr-returns-in_err-done-in-Sum : goal.expressions::expr-returns-in_err-done-in-Sum
+expressions::expr-returns-in_err-done-in-Sum t c = rw (c.in-Sum.is, part_sum_view) (first_of (search rules, grind (arith, common_steps)))
 
 pub expressions::expr-returns-in_err-operand-in-Between : goal.expressions::expr-returns-in_err-operand-in-Between
 expressions::expr-returns-in_err-operand-in-Between t c = rw (c.in-Between.is, part_between) (first_of (search rules, grind (arith, common_steps)))
@@ -89,11 +89,11 @@ expressions::expr-returns-in_ok-otherwise-in-Case t c = rw (c.in-Case.is, part_c
 pub expressions::expr-returns-in_ok-operand-in-Signed : goal.expressions::expr-returns-in_ok-operand-in-Signed
 expressions::expr-returns-in_ok-operand-in-Signed t c = rw (c.in-Signed.is, part_signed) (first_of (search (rules, lifted), grind (arith, common_steps), grind (arith, common_steps, lifted)))
 
-pub expressions::expr-returns-in_ok-end-in-Product : goal.expressions::expr-returns-in_ok-end-in-Product
-expressions::expr-returns-in_ok-end-in-Product t c = rw (c.in-Product.is, part_product_view) (first_of (search (rules, lifted), grind (arith, common_steps), grind (arith, common_steps, lifted)))
+pub expressions::expr-returns-in_ok-done-in-Product : goal.expressions::expr-returns-in_ok-done-in-Product
+expressions::expr-returns-in_ok-done-in-Product t c = rw (c.in-Product.is, part_product_view) (first_of (search (rules, lifted), grind (arith, common_steps), grind (arith, common_steps, lifted)))
 
-pub expressions::expr-returns-in_ok-end-in-Sum : goal.expressions::expr-returns-in_ok-end-in-Sum
-expressions::expr-returns-in_ok-end-in-Sum t c = rw (c.in-Sum.is, part_sum_view) (first_of (search (rules, lifted), grind (arith, common_steps), grind (arith, common_steps, lifted)))
+pub expressions::expr-returns-in_ok-done-in-Sum : goal.expressions::expr-returns-in_ok-done-in-Sum
+expressions::expr-returns-in_ok-done-in-Sum t c = rw (c.in-Sum.is, part_sum_view) (first_of (search (rules, lifted), grind (arith, common_steps), grind (arith, common_steps, lifted)))
 
 pub expressions::expr-returns-in_ok-high-in-Between : goal.expressions::expr-returns-in_ok-high-in-Between
 expressions::expr-returns-in_ok-high-in-Between t c = rw (c.in-Between.is, part_between) (first_of (search (rules, lifted), grind (arith, common_steps), grind (arith, common_steps, lifted)))
