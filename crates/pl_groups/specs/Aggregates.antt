@@ -1,7 +1,7 @@
 -- Aggregates: PostgreSQL manual, "Aggregate Functions". They skip nulls, and over none all but
 -- count are null.
 use Rattle.std.specs.Prelude.{ℤ, pos, ◌+ℤ◌, Bool, true, false, not, if◌then◌else◌, ℕ, List, [], ◌∷◌, ◌++◌}
-use Rattle.std.specs.Prelude.{Ok, filter, fold, length, map}
+use Rattle.std.specs.Prelude.{Ok, filter, fold, length}
 use Rattle.std.specs.List.{flat_map, list_all, list_any, zip}
 use Rattle.std.specs.Ordering.{is_lt}
 use Rattle.std.specs.declared.cmp.Ordering.{Ordering}
@@ -11,14 +11,10 @@ use Rattle.pl_calc.specs.Answer.{Answer}
 use Rattle.pl_calc.specs.Casts.{text_within}
 use Rattle.pl_calc.specs.Logic.{is_null}
 use Rattle.pl_calc.specs.Numbers.{bigint}
-use Rattle.pl_keys.specs.Order.{turned, value_at}
+use Rattle.pl_keys.specs.Order.{turned}
 use Rattle.pl_resolved.specs.declared.query.Aggregate.{Aggregate}
 use Rattle.pl_resolved.specs.declared.query.Aggregate.TheVariants.{CountRows, Count, Sum, Min, Max}
 use Rattle.pl_resolved.specs.declared.query.Aggregate.TheVariants.{BoolAnd, BoolOr, StringAgg}
-
--- the values at the places
-abbrev pub at_places : List Value → List ℕ → List Value
-at_places values places = map (value_at values) places
 
 abbrev pub is_given : Value → Bool
 is_given v = not (is_null v)
@@ -55,11 +51,6 @@ earlier order best v = if is_lt (order v best) then v else best
 abbrev pub joined : List (Value × Value) → List ℕ
 joined [] = []
 joined (p ∷ pairs) = text p.0 ++ flat_map (λ (q : Value × Value). text q.1 ++ text q.0) pairs
-
--- what a value adds to a joined text
-abbrev pub part : Bool → Value → Value → List ℕ
-part is_first v separator =
-    if is_null v then [] else (if is_first then text v else text separator ++ text v)
 
 -- what is made of some, and null of none
 abbrev pub of_some : {A : Type 0} → (A → List A → Answer) → List A → Answer

@@ -1,2 +1,4 @@
 pub mod Groups
 pub mod Aggregates
+pub mod Tallies
+pub mod Lent

@@ -1,46 +1,48 @@
 //! GROUP BY: PostgreSQL manual, "The GROUP BY and HAVING Clauses".
 
-ghost use Rattle.std.specs.Prelude.{◌≡◌, ◌<◌, IfOk, OnOk, vec_len};
-ghost use Rattle.std.specs.Option.{ForSome};
-ghost use Rattle.pl_groups.specs.Groups.{groups, with_member};
+ghost use Rattle.std.specs.Prelude.{◌≡◌, [], ◌∷◌, ◌++◌, length, IfOk, OnOk};
+ghost use Rattle.pl_groups.specs.Tallies.{place_in};
+ghost use Rattle.pl_keys.specs.Same.{place_of, same, with_row};
 
-use pl_base::{Cells, List};
+use pl_base::{Cells, List, Value};
 use pl_keys::Keys;
 use std::alloc::{AllocError, Global};
+use std::slice::from_ref;
 
-/// The groups of rows by their keys, in the order in which these first come: of each the places of
-/// its rows, from 0.
-pub fn group(alloc: Global, keys: Vec<Cells>) -> Result<Vec<List<usize>>, AllocError>
-    ensures { IfOk result (λ made. made.items ≡ groups keys.items) }
+/// The number of the group of a row with this key, from 0, in the order in which the keys first
+/// come. `known` has the keys of the groups.
+pub fn place_of_row(known: &mut Keys, key: Cells) -> Result<usize, AllocError>
+    ensures place { IfOk result (λ place. place ≡ place_in known.old key) }
+    ensures known { OnOk result (known.new ≡ with_row (place_of (same key) known.old) known.old
+        key) }
 {
-    let mut known = Keys::new(alloc);
-    let mut made = Vec::new(alloc);
-    let mut at = 0;
-    for key in keys {
-        let place = known.find_or_add(key)?;
-        add_member(alloc, &mut made, place, at)?;
-        at += 1;
+    let count = known.len();
+    match known.find_or_add(key)? {
+        Some(place) => Ok(place),
+        None => Ok(count),
     }
-    Ok(made)
 }
 
-// Puts the row to the group at the place, or into a group of its own.
-fn add_member(
-    alloc: Global,
-    made: &mut Vec<List<usize>>,
-    place: Option<usize>,
-    at: usize,
-) -> Result<(), AllocError>
-    requires { ForSome place (λ k. k < vec_len made.old) }
-    ensures { OnOk result (made.new.items ≡ with_member place at made.old.items) }
+/// The same of a key of one value, which is copied only if its group is new.
+pub fn place_of_value(alloc: Global, known: &mut Keys, key: &Value) -> Result<usize, AllocError>
+    ensures place { IfOk result (λ place. place ≡ place_in known.old (key.now ∷ [])) }
+    ensures known { OnOk result (known.new ≡ with_row (place_of (same (key.now ∷ [])) known.old)
+        known.old (key.now ∷ [])) }
 {
-    match place {
-        Some(place) => made[place].push(at),
-        None => {
-            let mut members = List::new(alloc);
-            members.push(at)?;
-            made.push(members)?;
-            Ok(())
-        }
+    match known.find(from_ref(key)) {
+        Some(place) => Ok(place),
+        None => add_value(alloc, known, key),
     }
+}
+
+// Puts a key of one value behind the others.
+fn add_value(alloc: Global, known: &mut Keys, key: &Value) -> Result<usize, AllocError>
+    ensures place { IfOk result (λ place. place ≡ length known.old) }
+    ensures known { OnOk result (known.new ≡ known.old ++ (key.now ∷ []) ∷ []) }
+{
+    let count = known.len();
+    let mut row = List::new(alloc);
+    row.push(key.copy(alloc)?)?;
+    known.add(row)?;
+    Ok(count)
 }

@@ -1,11 +1,15 @@
-//! Rows by groups, and what aggregates make of them.
+//! Groups of rows, and what aggregates make of their values as the rows come.
 #![tactic(auto)]
 
-mod aggregates;
+mod column;
 mod grouping;
+mod joined;
+mod tally;
 
-pub use aggregates::aggregate;
-pub use grouping::group;
+pub use column::Column;
+pub use grouping::{place_of_row, place_of_value};
+pub use joined::Joined;
+pub use tally::Tally;
 
 #[cfg(test)]
 mod tests;

@@ -1,8 +1,9 @@
 //! Rows by a key with nulls, and aggregates over values with nulls.
 
-use crate::{aggregate, group};
+use crate::{Column, place_of_row, place_of_value};
 use pl_base::{Cells, List, Txt, Value};
-use pl_calc::CalcFail;
+use pl_calc::{CalcFail, TEXT_LIMIT};
+use pl_keys::Keys;
 use pl_resolved::Aggregate;
 use std::alloc::{AllocError, Global};
 use std::test::Fail;
@@ -14,21 +15,15 @@ fn key(alloc: Global, v: Value) -> Result<Cells, AllocError> {
 }
 
 #[test]
-fn rows_are_grouped_in_the_order_of_their_keys(rt: HostRuntime) -> Result<(), Fail> {
+fn groups_are_numbered_in_the_order_of_their_keys(rt: HostRuntime) -> Result<(), Fail> {
     let alloc = rt.alloc();
-    let mut keys = Vec::new(alloc);
-    keys.push(key(alloc, Value::Int(1))?)?;
-    keys.push(key(alloc, Value::Null)?)?;
-    keys.push(key(alloc, Value::Int(1))?)?;
-    keys.push(key(alloc, Value::Int(-1))?)?;
-    keys.push(key(alloc, Value::Null)?)?;
-    let made = group(alloc, keys)?;
-    assert_eq!(rt; made.len(), 3);
-    let mut places: Vec<usize> = Vec::new(alloc);
-    for members in &made {
-        places.extend_from_slice(members.as_slice())?;
-    }
-    assert_eq!(rt; places.as_slice(), [0usize, 2, 1, 4, 3].as_slice());
+    let mut known = Keys::new(alloc);
+    assert_eq!(rt; place_of_row(&mut known, key(alloc, Value::Int(1))?)?, 0);
+    assert_eq!(rt; place_of_value(alloc, &mut known, &Value::Null)?, 1);
+    assert_eq!(rt; place_of_value(alloc, &mut known, &Value::Big(1))?, 0);
+    assert_eq!(rt; place_of_value(alloc, &mut known, &Value::Int(-1))?, 2);
+    assert_eq!(rt; place_of_row(&mut known, key(alloc, Value::Null)?)?, 1);
+    assert_eq!(rt; known.len(), 3);
     Ok(())
 }
 
@@ -37,76 +32,118 @@ fn number(answer: Result<Value, CalcFail>) -> Option<i64> {
         Ok(Value::Int(number)) => Some(i64::from(number)),
         Ok(Value::Big(number)) => Some(number),
         Ok(Value::Bool(truth)) => Some(i64::from(truth)),
+        Ok(Value::Text(text)) => i64::try_from(text.len()).ok(),
         _ => None,
     }
 }
 
-fn text(answer: &Result<Value, CalcFail>) -> &[u8] {
-    match answer {
-        Ok(Value::Text(text)) => text.as_bytes(),
-        _ => &[],
+// Of each value its group, and what the aggregate gives for the groups 0 and 1 and for one that has
+// no row.
+fn answers(
+    alloc: Global,
+    aggregate: Aggregate,
+    values: &[(usize, Value)],
+) -> Result<[Option<i64>; 3], AllocError> {
+    let mut column = Column::new(alloc, aggregate);
+    for (place, v) in values {
+        column.add(alloc, *place, v, v)?;
     }
+    Ok([
+        number(column.finish(alloc, 0)),
+        number(column.finish(alloc, 1)),
+        number(column.finish(alloc, 2)),
+    ])
 }
 
-// SELECT count(*), count(v), sum(v), min(v), max(v) FROM (VALUES (2), (NULL), (5), (2)) t(v)
+// SELECT count(*), count(v), sum(v), min(v), max(v) FROM (VALUES (0, 2), (0, NULL), (1, NULL),
+// (0, 5), (0, 2)) t(g, v) GROUP BY g
 #[test]
 fn nulls_are_skipped(rt: HostRuntime) -> Result<(), Fail> {
     let alloc = rt.alloc();
-    let mut values = Vec::new(alloc);
-    values.push(Value::Int(2))?;
-    values.push(Value::Null)?;
-    values.push(Value::Int(5))?;
-    values.push(Value::Int(2))?;
-    let given = values.as_slice();
-    let all = [0, 1, 2, 3];
+    let values = [
+        (0, Value::Int(2)),
+        (0, Value::Null),
+        (1, Value::Null),
+        (0, Value::Big(5)),
+        (0, Value::Int(2)),
+    ];
     let kinds = [
-        (Aggregate::CountRows, Some(4)),
-        (Aggregate::Count, Some(3)),
-        (Aggregate::Sum, Some(9)),
-        (Aggregate::Min, Some(2)),
-        (Aggregate::Max, Some(5)),
+        (Aggregate::CountRows, [Some(4), Some(1), Some(0)]),
+        (Aggregate::Count, [Some(3), Some(0), Some(0)]),
+        (Aggregate::Sum, [Some(9), None, None]),
+        (Aggregate::Min, [Some(2), None, None]),
+        (Aggregate::Max, [Some(5), None, None]),
     ];
     for (kind, expected) in &kinds {
-        assert_eq!(rt;
-            number(aggregate(alloc, *kind, given, &[], &all)),
-            *expected
-        );
+        assert_eq!(rt; answers(alloc, *kind, &values)?, *expected);
     }
+    Ok(())
+}
+
+// The same of bool_and and bool_or over truths, and of the length of string_agg(v, v) over texts.
+#[test]
+fn truths_and_texts_are_taken_together(rt: HostRuntime) -> Result<(), Fail> {
+    let alloc = rt.alloc();
+    let truths = [
+        (0, Value::Bool(true)),
+        (0, Value::Null),
+        (0, Value::Bool(false)),
+        (1, Value::Bool(true)),
+    ];
     assert_eq!(rt;
-        number(aggregate(alloc, Aggregate::Sum, given, &[], &[1])),
-        None
+        answers(alloc, Aggregate::BoolAnd, &truths)?,
+        [Some(0), Some(1), None]
     );
     assert_eq!(rt;
-        number(aggregate(alloc, Aggregate::Count, given, &[], &[1])),
-        Some(0)
+        answers(alloc, Aggregate::BoolOr, &truths)?,
+        [Some(1), Some(1), None]
+    );
+    let texts = [
+        (0, Value::Text(Txt::from_slice(alloc, b"a")?)),
+        (0, Value::Null),
+        (0, Value::Text(Txt::from_slice(alloc, b"bc")?)),
+        (1, Value::Text(Txt::from_slice(alloc, b"")?)),
+    ];
+    assert_eq!(rt;
+        answers(alloc, Aggregate::StringAgg, &texts)?,
+        [Some(5), Some(0), None]
     );
     Ok(())
 }
 
-// SELECT bool_and(v), bool_or(v) FROM (VALUES (true), (NULL), (false)) t(v)
+// A sum that is out of range for a while, and one that is so in the end.
 #[test]
-fn truths_and_texts_are_taken_together(rt: HostRuntime) -> Result<(), Fail> {
+fn a_sum_is_in_range_in_the_end(rt: HostRuntime) -> Result<(), Fail> {
     let alloc = rt.alloc();
-    let mut truths = Vec::new(alloc);
-    truths.push(Value::Bool(true))?;
-    truths.push(Value::Null)?;
-    truths.push(Value::Bool(false))?;
-    let given = truths.as_slice();
-    let all = [0, 1, 2];
+    let numbers = [
+        (0, Value::Big(i64::MAX)),
+        (0, Value::Big(1)),
+        (0, Value::Big(-1)),
+        (1, Value::Big(i64::MAX)),
+        (1, Value::Big(1)),
+    ];
     assert_eq!(rt;
-        number(aggregate(alloc, Aggregate::BoolAnd, given, &[], &all)),
-        Some(0)
+        answers(alloc, Aggregate::Sum, &numbers)?,
+        [Some(i64::MAX), None, None]
     );
-    assert_eq!(rt;
-        number(aggregate(alloc, Aggregate::BoolOr, given, &[], &all)),
-        Some(1)
-    );
-    let mut texts = Vec::new(alloc);
-    texts.push(Value::Text(Txt::from_slice(alloc, b"a")?))?;
-    texts.push(Value::Null)?;
-    texts.push(Value::Text(Txt::from_slice(alloc, b"b")?))?;
-    let given = texts.as_slice();
-    let joined = aggregate(alloc, Aggregate::StringAgg, given, given, &all);
-    assert_eq!(rt; text(&joined), b"abb".as_slice());
+    Ok(())
+}
+
+// Texts that join to the most bytes that a text may have, and to one more.
+#[test]
+fn a_joined_text_has_a_limit(rt: HostRuntime) -> Result<(), Fail> {
+    let alloc = rt.alloc();
+    let mut bytes = Vec::new(alloc);
+    bytes.resize(TEXT_LIMIT / 4, b'x')?;
+    let quarter = Value::Text(Txt::from_vec(bytes));
+    let empty = Value::Text(Txt::from_slice(alloc, b"")?);
+    let one = Value::Text(Txt::from_slice(alloc, b"y")?);
+    let mut column = Column::new(alloc, Aggregate::StringAgg);
+    for _row in 0..4 {
+        column.add(alloc, 0, &quarter, &empty)?;
+    }
+    assert_eq!(rt; number(column.finish(alloc, 0)), Some(1_048_576));
+    column.add(alloc, 0, &one, &empty)?;
+    assert_eq!(rt; number(column.finish(alloc, 0)), None);
     Ok(())
 }

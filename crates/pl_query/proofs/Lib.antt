@@ -8,4 +8,5 @@ mod Before
 mod SourceEquations
 mod Shortened
 mod Chosen
+mod Kept
 mod Whole

@@ -2,4 +2,5 @@ pub mod Sources
 pub mod Rows
 pub mod Query
 pub mod Draws
+pub mod Running
 pub mod Serves

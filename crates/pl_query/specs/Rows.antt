@@ -1,23 +1,23 @@
 -- Groups and the select list: PostgreSQL manual, "The GROUP BY and HAVING Clauses", "Select Lists".
-use Rattle.std.specs.Prelude.{ℕ, suc, Bool, true, false, if◌then◌else◌, List, [], ◌∷◌, ◌++◌, Option}
-use Rattle.std.specs.Prelude.{Some, None, drop, length, map, replicate, slice_get, unwrap_or}
+use Rattle.std.specs.Prelude.{ℕ, suc, if◌then◌else◌, List, [], ◌∷◌, ◌++◌, Option, Some, None}
+use Rattle.std.specs.Prelude.{drop, length, map, replicate, slice_get, unwrap_or}
 use Rattle.pl_base.specs.declared.value.Value.{Value}
-use Rattle.pl_groups.specs.Aggregates.{aggregated, at_places}
+use Rattle.pl_base.specs.declared.value.Value.TheVariants.{Null}
+use Rattle.pl_calc.specs.Answer.{Answer}
+use Rattle.pl_groups.specs.Aggregates.{aggregated}
 use Rattle.pl_groups.specs.Groups.{groups}
-use Rattle.pl_keys.specs.Order.{value_at}
 use Rattle.pl_product.specs.Product.{passes}
 use Rattle.pl_query.specs.Sources.{Drawn, leaves, frames}
-use Rattle.pl_query.specs.declared.members.Column.{Column}
-use Rattle.pl_query.specs.declared.members.Members.{Members}
 use Rattle.pl_resolved.specs.declared.query.Aggregate.{Aggregate}
 use Rattle.pl_value.specs.Frames.{Row, Frame}
 use Rattle.pl_value.specs.Meaning.{Part, values}
 use Rattle.pl_value.specs.Reading.{Reading, got, settled, then_read}
 
--- an aggregate with what its arguments mean
+-- an aggregate with what its first and its second argument mean
 pub record Aggregation (W : Type 0) : Type 0 where
   pub aggregate : Aggregate
-  pub arguments : List (Part W)
+  pub first : Part W
+  pub second : Part W
 
 -- how rows are grouped
 pub record Grouping (W : Type 0) : Type 0 where
@@ -25,33 +25,34 @@ pub record Grouping (W : Type 0) : Type 0 where
   pub aggregations : List (Aggregation W)
   pub having : Option (Part W)
 
--- the values of an argument of an aggregate, in all rows
-abbrev pub column : ℕ → ℕ → List (List Row) → List Value
-column aggregate argument rows =
-    map (λ row. value_at (unwrap_or (slice_get row aggregate) []) argument) rows
+-- a row of the product with what is read of it before it is in a group: its keys, and the first and
+-- the second argument of each aggregate
+pub record Member : Type 0 where
+  pub frame : Frame
+  pub keys : Row
+  pub arguments : List (Value × Value)
 
--- the aggregates, from this number on, with the values of their first and second arguments
-abbrev pub columns : ℕ → List Aggregate → List (List Row) → List Column
-columns at [] rows = []
-columns at (a ∷ more) rows =
-    record { aggregate = a; values = column at 0 rows; others = column at 1 rows }
-    ∷ columns (suc at) more rows
+-- the arguments of the aggregate of this number
+abbrev pub argument : ℕ → Member → Value × Value
+argument at m = unwrap_or (slice_get m.arguments at) (Null, Null)
 
-abbrev pub has_some : {A : Type 0} → List A → Bool
-has_some [] = false
-has_some (x ∷ xs) = true
+-- what the aggregates, from this number on, give over members
+abbrev pub answers : ℕ → List Aggregate → List Member → List Answer
+answers at [] ms = []
+answers at (a ∷ more) ms =
+    aggregated a (map (λ m. (argument at m).0) ms) (map (λ m. (argument at m).1) ms)
+    ∷ answers (suc at) more ms
 
--- without a key all rows are one group, which is there without rows too
-abbrev pub or_one : Bool → List (List ℕ) → List (List ℕ)
-or_one false [] = [] ∷ []
-or_one has_keys gs = gs
+-- the members of each group; without a key all are one group, which is there without members too
+abbrev pub grouped : {A : Type 0} → List A → List Member → List (List Member)
+grouped [] ms = ms ∷ []
+grouped (key ∷ keys) ms = groups (λ (m : Member). m.keys) ms
 
 -- the rows that stand for a group behind the row of its aggregates: those of its first member;
 -- without a member each is empty
-abbrev pub first_rows : Frame → Drawn → List ℕ → Frame
-first_rows outer d [] = replicate (leaves d) []
-first_rows outer d (place ∷ places) =
-    drop (suc (length outer)) (unwrap_or (slice_get (frames d) place) [])
+abbrev pub first_rows : Frame → ℕ → List Member → Frame
+first_rows outer leaves [] = replicate leaves []
+first_rows outer leaves (m ∷ ms) = drop (suc (length outer)) m.frame
 
 module _ {W : Type 0} where
   -- things in turn: what each adds to what those before it gave
@@ -65,19 +66,24 @@ module _ {W : Type 0} where
   with_row parts frame done w =
       then_read (values parts [] frame w) (λ row w. got (done ++ row ∷ []) w)
 
-  -- what is read of a row before it is in a group: its keys, and the arguments of each aggregate
-  abbrev pub with_member : Grouping W → Frame → Members → W → Reading W Members
-  with_member g frame done w =
-      then_read (values g.keys [] frame w) (λ key w.
-      then_read (in_turn (λ a. with_row a.arguments frame) g.aggregations [] w) (λ row w.
-      got (record { keys = done.keys ++ key ∷ []; rows = done.rows ++ row ∷ [] }) w))
+  -- the arguments of each aggregate, of one row
+  abbrev pub arguments : List (Aggregation W) → Frame → W → Reading W (List (Value × Value))
+  arguments [] frame w = got [] w
+  arguments (a ∷ more) frame w =
+      then_read (a.first frame w) (λ v w.
+      then_read (a.second frame w) (λ other w.
+      then_read (arguments more frame w) (λ pairs w. got ((v, other) ∷ pairs) w)))
 
-  -- an aggregate of the rows at the places
-  abbrev pub with_aggregate : List ℕ → Column → Row → W → Reading W Row
-  with_aggregate places c done w =
-      then_read (settled (aggregated c.aggregate (at_places c.values places)
-      (at_places c.others places)) w) (λ v w.
-      got (done ++ v ∷ []) w)
+  -- one row more is read
+  abbrev pub with_member : Grouping W → Frame → List Member → W → Reading W (List Member)
+  with_member g frame done w =
+      then_read (values g.keys [] frame w) (λ keys w.
+      then_read (arguments g.aggregations frame w) (λ pairs w.
+      got (done ++ record { frame = frame; keys = keys; arguments = pairs } ∷ []) w))
+
+  -- one value more
+  abbrev pub with_value : Answer → Row → W → Reading W Row
+  with_value answer done w = then_read (settled answer w) (λ v w. got (done ++ v ∷ []) w)
 
   -- one row more, if HAVING passes
   abbrev pub with_row_if : Option (Part W) → List (Part W) → Frame → List Row → W
@@ -87,25 +93,18 @@ module _ {W : Type 0} where
       if b then with_row items frame done w else got done w)
 
   -- a group: its aggregates, HAVING and the select list, over the rows that stand for it
-  abbrev pub with_group : Grouping W → List (Part W) → Frame → Drawn → List Column → List ℕ
-      → List Row → W → Reading W (List Row)
-  with_group g items outer d cs places done w =
-      then_read (in_turn (with_aggregate places) cs [] w) (λ values w.
-      with_row_if g.having items (outer ++ values ∷ first_rows outer d places) done w)
-
-  -- the groups, in the order in which their keys first come
-  abbrev pub with_groups : Grouping W → List (Part W) → Frame → Drawn → Members → W
+  abbrev pub with_group : Grouping W → List (Part W) → Frame → ℕ → List Member → List Row → W
       → Reading W (List Row)
-  with_groups g items outer d members w =
-      in_turn (with_group g items outer d
-      (columns 0 (map (λ a. a.aggregate) g.aggregations) members.rows))
-      (or_one (has_some g.keys) (groups members.keys)) [] w
+  with_group g items outer leaves ms done w =
+      then_read (in_turn with_value (answers 0 (map (λ a. a.aggregate) g.aggregations) ms) [] w)
+      (λ values w.
+      with_row_if g.having items (outer ++ values ∷ first_rows outer leaves ms) done w)
 
-  -- the values of the select list, for each row or for each group
+  -- the values of the select list, for each row, or for each group in the order in which the keys
+  -- first come
   abbrev pub selected : Option (Grouping W) → List (Part W) → Frame → Drawn → W
       → Reading W (List Row)
   selected None items outer d w = in_turn (with_row items) (frames d) [] w
   selected (Some g) items outer d w =
-      then_read (in_turn (with_member g) (frames d) (record { keys = []; rows = [] }) w)
-      (λ members w.
-      with_groups g items outer d members w)
+      then_read (in_turn (with_member g) (frames d) [] w) (λ ms w.
+      in_turn (with_group g items outer (leaves d)) (grouped g.keys ms) [] w)

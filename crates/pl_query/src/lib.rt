@@ -4,9 +4,9 @@
 mod draws;
 mod ending;
 mod groups;
-mod members;
 mod query;
 mod rows;
+mod running;
 mod sources;
 mod tables;
 mod within;

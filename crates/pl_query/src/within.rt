@@ -101,9 +101,9 @@ pub fn run_before<C: Caller, T: Tables>(
 
 /// The rows of the query of this number, over the rows that stand around it. A call of a routine
 /// may change the caller, and a failure ends the query: its SQLSTATE is that of the expression that
-/// failed, 54000 at the 1,000,001st row that passes WHERE, or ON in brackets, 54001 where more than
-/// 1,000 rows would stand together, 2201X and 2201W for a negative OFFSET and LIMIT, and 42804 for
-/// one that is no number.
+/// failed, 54000 at the 1,000,001st row that passes WHERE, or that passes ON in joined items in
+/// brackets, 54001 where more than 1,000 rows would stand together, 2201X and 2201W for a negative
+/// OFFSET and LIMIT, 42804 for one that is no number.
 pub fn run<C: Caller, T: Tables>(
     alloc: Global,
     queries: &[RQuery],

@@ -1,2 +1,0 @@
-mod Grouped
-mod Aggregated
