@@ -4,3 +4,7 @@ mod Times
 mod Cases
 mod Numbers
 mod Truths
+mod Tested
+mod Found
+mod Single
+mod Between

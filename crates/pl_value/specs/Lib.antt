@@ -5,5 +5,6 @@ pub mod Meaning
 pub mod Answers
 pub mod Operand
 pub mod Number
+pub mod Among
 pub mod NoRoutines
 pub mod Steps

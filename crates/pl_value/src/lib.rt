@@ -5,6 +5,7 @@
 mod combined;
 mod comparison;
 mod expression;
+mod membership;
 mod number;
 mod operand;
 mod operations;

@@ -1,6 +1,6 @@
 //! What is made of values that were read, by the tables of values.
 
-ghost use Rattle.std.specs.Prelude.{◌≡◌, true, Bool, Ok, Result, Some};
+ghost use Rattle.std.specs.Prelude.{◌≡◌, not, option_map, true, Bool, Ok, Result, Some};
 ghost use Rattle.pl_base.specs.declared.state.State.{State as AState};
 ghost use Rattle.pl_calc.specs.Answer.{Answer, Gives};
 ghost use Rattle.pl_calc.specs.Casts.{cast_to};
@@ -95,7 +95,7 @@ fn of_two_values<'a, C>(
 }
 
 /// A cast to the type gives the value itself.
-fn is_of(v: &Value, to: &Ty) -> bool
+pub(crate) fn is_of(v: &Value, to: &Ty) -> bool
     ensures { result ≡ true → cast_to v.now to.now ≡ Ok v.now }
 {
     match (v, to) {
@@ -183,6 +183,16 @@ pub(crate) fn is_so(truth: Option<bool>) -> bool
     ensures { result ≡ is_so truth }
 {
     truth == Some(true)
+}
+
+/// NOT
+pub(crate) fn turned(truth: Option<bool>) -> Option<bool>
+    ensures { result ≡ option_map not truth }
+{
+    match truth {
+        Some(truth) => Some(!truth),
+        None => None,
+    }
 }
 
 /// Whether the values are equal. 42883 where they can't be compared.

@@ -8,6 +8,7 @@ use Rattle.pl_value.specs.Steps.{stops}
 use Rattle.pl_value.proofs.Lists.{combined_is, call_is, row_is, and_is, or_is, binary_is, steps_here}
 use Rattle.pl_value.proofs.Leaves.{two_leaves, two_left}
 use Rattle.pl_value.proofs.Cases.{without_operand, with_operand, holds_by}
+use Rattle.pl_value.proofs.Single.{single_is}
 use Rattle.pl_value.proofs.Truths.{and_truth, or_truth, passes_is, truth_gives}
 use Rattle.pl_value.proofs.expression.+value.Goals as goal
 
@@ -101,3 +102,7 @@ passes-returns-in-Err g t c =
     stops {A = Option Bool} {B = Bool} _ (truth (value g.C.Caller.calls (g.S.Subqueries.sub c.args.sub.now) c.args.condition.now) (rows_of c.args.frame.now) c.args.caller.now)
     (λ t w. got (is_so t) w) _ _
     (passes_is (value g.C.Caller.calls (g.S.Subqueries.sub c.args.sub.now) c.args.condition.now) (rows_of c.args.frame.now) c.args.caller.now) c.in-Err.ensures
+
+pub combined-returns-in-Some : goal.combined-returns-in-Some
+combined-returns-in-Some g t c = subst (λ (q : Reading _ Value). Reads {A = Value} q c.single.result c.single.new.caller)
+    (sym (single_is (value g.C.Caller.calls (g.S.Subqueries.sub c.args.sub.now)) c.args.combination c.args.parts.now _ (rows_of c.args.frame.now) c.args.caller.now c.in-Some.ensures)) c.single.ensures
