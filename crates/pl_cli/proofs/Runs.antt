@@ -8,14 +8,17 @@ use Rattle.pl_disk.specs.Disk.{View, IsLawful, Calls, IsPrefix, Keeps, Rises, Ru
 use Rattle.pl_disk.specs.Lent.{each, from_call, goes_on, runs_on, since_attach, weaker}
 use Rattle.pl_disk.specs.declared.device.Failed.{Failed}
 use Rattle.pl_keeper.specs.Batches.{Damage}
-use Rattle.pl_keeper.specs.Store.{KeepsFile}
+use Rattle.pl_keeper.specs.Store.{Has, KeepsFile}
 use Rattle.pl_meaning.specs.Covered.{AlongFrom}
 use Rattle.pl_meaning.specs.Database.{Database}
 use Rattle.pl_meaning.specs.Meaning.{AreOfFirst, IsTrace}
 use Rattle.pl_meaning.specs.Opening.{opens}
 use Rattle.pl_meaning.specs.Trace.{Event, Said, is_failed, text as text_of}
 use Rattle.pl_session.specs.Starts.{StartPair}
+use Rattle.pl_session.specs.Short.{IsShort, StaysShort}
 use Rattle.pl_session.specs.Spare.{KeepsArea}
+use Rattle.pl_session.specs.State.{IsReady}
+use Rattle.pl_session.specs.declared.state.SessionState.{SessionState}
 use Rattle.pl_session.specs.Endings.{Done, PrintsWhole}
 use Rattle.pl_session.specs.Lent.{area_kept, area_still}
 use Rattle.pl_cli.specs.Line.{Asked, Word, asked}
@@ -242,6 +245,33 @@ done_by Source b d text stops found events ends told is traced = absurd ends
 done_by Damaged b d text stops found events ends told is traced = absurd ends
 done_by Refused b d text stops found events ends told is traced = absurd ends
 
+-- ---- a store that is kept short
+
+pub short_image : {H : Type 0} (v : View) (state : SessionState) (old new : H) → IsReady v state → v.told → StaysShort state.keeper old new → (i : Image) → v.may_leave i → IsShort i ⊎ (new ≡ old)
+short_image v state old new ready told stays i left =
+    let s = ready.store told in
+    ⊎_elim (λ short. inl (s.list, state.keeper, subst (λ (c : Image). Has s.list state.keeper c) (sym (s.store.settled i left)) s.store.has, short)) (λ same. inr same) stays
+
+-- endings at which no script was run, and those at which one was run to its end
+pub not_run : (e : Ending) → (e ≡ Whole) ⊎ (e ≡ AtError) → (e ≡ Refused) ⊎ ((e ≡ Say) ⊎ (e ≡ Memory)) → ⊥
+not_run e (inl is) (inl other) = cc
+not_run e (inl is) (inr (inl other)) = cc
+not_run e (inl is) (inr (inr other)) = cc
+not_run e (inr is) (inl other) = cc
+not_run e (inr is) (inr (inl other)) = cc
+not_run e (inr is) (inr (inr other)) = cc
+
+pub was_run : (e : Ending) (b d : View) (text : List ℕ) (stops : Bool) (found : Database) → ScriptEnd e b d text stops found → (e ≡ Source) ⊎ (e ≡ Refused) → ⊥
+was_run Whole b d text stops found ends is = ⊎_elim (λ h. cc) (λ h. cc) is
+was_run AtError b d text stops found ends is = ⊎_elim (λ h. cc) (λ h. cc) is
+was_run Disk b d text stops found ends is = ⊎_elim (λ h. cc) (λ h. cc) is
+was_run Say b d text stops found ends is = ⊎_elim (λ h. cc) (λ h. cc) is
+was_run Memory b d text stops found ends is = ⊎_elim (λ h. cc) (λ h. cc) is
+was_run Usage b d text stops found ends is = ends
+was_run Source b d text stops found ends is = ends
+was_run Damaged b d text stops found ends is = ends
+was_run Refused b d text stops found ends is = ends
+
 -- ---- what is printed where the disk failed
 
 pub prints_whole : (e : Ending) (b d : View) (script : List ℕ) (stops : Bool) (found : Database) → ScriptEnd e b d script stops found → e ≡ Disk → PrintsWhole b d script stops found
@@ -264,6 +294,12 @@ prints_since a b d script script' stops stops' found db same_script same_stops s
       (subst (λ (f : Bool). AreOfFirst script f db whole.0) same_stops (subst (λ (e : Database). AreOfFirst script stops e whole.0) same whole.1)),
   λ t. whole.2 (told t) ∙ ap (λ (l : List ℕ). l ++ text_of whole.0) (printed t),
 )
+
+-- the first of a script's pieces, of the script, the choice and the database as they are named above
+pub first_since : (script script' : List ℕ) (stops stops' : Bool) (found db : Database) (events : List Event) → script ≡ script' → stops ≡ stops' → found ≡ db → AreOfFirst script stops found events → AreOfFirst script' stops' db events
+first_since script script' stops stops' found db events same_script same_stops same is =
+    subst (λ (s : List ℕ). AreOfFirst s stops' db events) same_script
+    (subst (λ (f : Bool). AreOfFirst script f db events) same_stops (subst (λ (e : Database). AreOfFirst script stops e events) same is))
 
 pub none_printed : (a d : View) (script : List ℕ) (stops : Bool) (db : Database) → (a.told → d.printed ≡ a.printed) → PrintsWhole a d script stops db
 none_printed a d script stops db printed = ([], none_yet script stops db, λ told. printed told ∙ sym (append-nil a.printed))

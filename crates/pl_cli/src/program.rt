@@ -2,12 +2,14 @@
 
 ghost use Rattle.std.specs.Prelude.{◌≡◌, ◌⊎◌, ◌++◌, List, ℕ, map, [], Some, None, Ok, Err, IfOk, IfErr, string_bytes};
 ghost use Rattle.pl_disk.specs.Disk.{Continues, Runs, Settled, Untouched, with_attached};
-ghost use Rattle.pl_keeper.specs.Batches.{Damage, spare_area};
+ghost use Rattle.pl_base.specs.Image.{Image};
+ghost use Rattle.pl_keeper.specs.Batches.{Damage, batches, spare_area};
 ghost use Rattle.pl_meaning.specs.Database.{Database};
 ghost use Rattle.pl_meaning.specs.Opening.{opens};
 ghost use Rattle.pl_meaning.specs.Trace.{Event};
 ghost use Rattle.pl_session.specs.Endings.{Done, OfTrace, PrintsWhole, RunsAlong};
-ghost use Rattle.pl_session.specs.Spare.{KeepsArea, spare_in};
+ghost use Rattle.pl_session.specs.Short.{IsShort};
+ghost use Rattle.pl_session.specs.Spare.{KeepsArea};
 ghost use Rattle.pl_session.specs.Starts.{HasStartCause, IsStarted, OpensSame, StartPair};
 ghost use Rattle.pl_session.specs.State.{IsReady, database_in};
 ghost use Rattle.pl_cli.specs.Covers.{CoveredRun};
@@ -130,8 +132,9 @@ fn run_commands<H: Host>(
         (λ events. RunsAlong (H.view host.old) (H.view host.new) events (database_in state.old)) }
     ensures ended { ScriptEnd result (H.view host.old) (H.view host.new) script.now stops
         (database_in state.old) }
-    ensures spare { (H.view host.old).told
-        → KeepsArea (spare_in state.old) (H.view host.old) (H.view host.new) }
+    ensures short { (result ≡ end.Whole) ⊎ (result ≡ end.AtError) → (H.view host.old).told
+        → (image : Image) → (H.view host.new).may_leave image
+        → IsShort image ⊎ (host.new ≡ host.old) }
 {
     match state.run_script(host, script, stops) {
         Ok(Ended::Whole) => Ending::Whole,
@@ -179,6 +182,11 @@ pub fn run<H: Host, S: Source>(
     ensures read { (result.ending ≡ end.Whole) ⊎ (result.ending ≡ end.AtError)
         → (script : List ℕ) → S.left source.old ≡ Some script → S.left source.new ≡ Some [] }
 
+    // 0, 3: no checkpoint is due; or no frame was written, and the batches are those from before.
+    ensures short { (result.ending ≡ end.Whole) ⊎ (result.ending ≡ end.AtError)
+        → (H.view host.old).told → (image : Image) → (H.view host.new).may_leave image
+        → IsShort image ⊎ (batches image ≡ batches (H.view host.old).seen) }
+
     // 2: the usage line is printed. Wrong words leave the store as it is, however the run ends.
     ensures usage { result.ending ≡ end.Usage → (H.view host.old).told
         → (H.view host.new).printed ≡ (H.view host.old).printed ++ usage_line }
@@ -210,13 +218,15 @@ pub fn run<H: Host, S: Source>(
         → (over : Over (map string_bytes words.now) (H.view host.old) (S.left source.old) db events)
         → IsBetween over (H.view host.new) }
 
-    // The store and the script that are attached are those that the words name, and no others. The
-    // area that doesn't count stays as it is.
+    // The store and the script that are attached are those that the words name, and no others.
     ensures store { AttachesStore (asked (map string_bytes words.now)) result.ending
         (H.view host.old).attached (H.view host.new).attached }
     ensures script { AttachesScript (asked (map string_bytes words.now)) result.ending
         (S.attached source.old) (S.attached source.new) }
-    ensures spare { (H.view host.old).told → KeepsArea (spare_area (H.view host.old).seen)
+
+    // 5, 8: the area that doesn't count stays as it is.
+    ensures spare { (result.ending ≡ end.Source) ⊎ (result.ending ≡ end.Refused)
+        → (H.view host.old).told → KeepsArea (spare_area (H.view host.old).seen)
         (H.view host.old) (H.view host.new) }
 {
     let line = match read_words(alloc, words) {

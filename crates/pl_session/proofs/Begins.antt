@@ -1,24 +1,23 @@
 -- How a store is opened.
-use Rattle.std.proofs.Common.{◌≡◌, ◌<◌, ◌≤◌, ◌-◌, ◌^◌, ◌⊎◌, inl, inr, ⊎_elim, ℕ, List, [], length, Option, Result, Ok, Err, None, Some, IsErrAnd, arith, refl, sym, ◌∙◌, ap, subst}
+use Rattle.std.proofs.Common.{◌≡◌, ◌<◌, ◌≤◌, ◌-◌, ◌^◌, ◌⊎◌, inl, inr, ⊎_elim, ℕ, List, [], Option, Result, Ok, Err, None, Some, IsErrAnd, arith, refl, sym, ◌∙◌, ap, subst}
 use Rattle.std.specs.Prelude.{IfErr}
 use Rattle.std.proofs.Math.Nat.{eq-or-lt_of_le}
-use Rattle.pl_base.specs.Image.{Image, file, other}
+use Rattle.pl_base.specs.Image.{Image}
 use Rattle.pl_base.specs.declared.area.Area.{Area}
 use Rattle.pl_base.specs.declared.area.Area.TheVariants.{A, B}
-use Rattle.pl_codec.specs.Reading.{operations_of}
 use Rattle.pl_disk.specs.Disk.{View, Continues, IsLawful, Looks, Rises, Runs, Settled, Untouched, Writes}
 use Rattle.pl_disk.specs.Lent.{after_writes, goes_on, looked, run_weaker, runs_on}
-use Rattle.pl_keeper.specs.Batches.{Damage, Log, Stored, batches, counting, logged, log_in, spare_area, spare_by}
+use Rattle.pl_keeper.specs.Batches.{Damage, Log, Stored, batches, counting, spare_area, spare_by}
 use Rattle.pl_keeper.specs.Lent.{misheaded, none_stored}
 use Rattle.pl_keeper.specs.Reading.{IsMisheaded}
 use Rattle.pl_frames.specs.Cause.{HasCause}
-use Rattle.pl_frames.specs.Format.{frames_from}
 use Rattle.pl_frames.specs.declared.fail.FrameFail.{FrameFail}
 use Rattle.pl_frames.specs.declared.fail.FrameFail.TheVariants as frames
 use Rattle.pl_keeper.specs.Store.{Recovering, HasSame, Recovered, IsUsed}
 use Rattle.pl_keeper.specs.declared.head.Head.{Head}
 use Rattle.pl_meaning.specs.Database.{Database}
 use Rattle.pl_meaning.specs.Opening.{apply_batches, in_area, opened_by, opens}
+use Rattle.pl_meaning.specs.Whole.{IsSound}
 use Rattle.pl_session.specs.Halts.{start_fail_of}
 use Rattle.pl_session.specs.Lent.{area_kept, area_on, area_untouched, area_wrote}
 use Rattle.pl_session.specs.Spare.{KeepsArea}
@@ -128,42 +127,22 @@ keeps_spare a b told writes same used = by_counting (counting a.seen) refl
     by_counting (Ok (Some area)) is = area_untouched (spare_area a.seen) a b (used (λ none. some_none area (sym is ∙ none)))
     by_counting (Err damage) is = area_untouched (spare_area a.seen) a b (used (λ none. err_none damage (sym is ∙ none)))
 
--- and it is the other one than that of the batches that were found
-abbrev area_in : Result Log Damage → Area
-area_in (Ok log) = log.area
-area_in (Err damage) = A
-
-spare_found : (c : Image) (log : Log) → batches c ≡ Ok log → other log.area ≡ spare_area c
-unfolding batches
-spare_found c log is = by_counting (counting c) is
-  where
-    err_ok : (damage : Damage) → (let r : Result Log Damage = Err damage in r ≡ Ok log) → ⊥
-    err_ok damage h = cc
-
-    by_frames : (area : Area) (r : Result (List Stored) ℕ) → logged area r ≡ Ok log → other log.area ≡ other area
-    by_frames area (Ok list) h = ap other (sym (ap area_in h))
-    by_frames area (Err at) h = absurd (err_ok (record { area = area; at = at }) h)
-
-    by_counting : (r : Result (Option Area) Damage) → log_in c r ≡ Ok log → other log.area ≡ spare_by r
-    by_counting (Err damage) h = absurd (err_ok damage h)
-    by_counting (Ok None) h = ap other (sym (ap area_in h))
-    by_counting (Ok (Some area)) h = by_frames area (frames_from operations_of (length (file area c)) (file area c) 17) h
-
 -- the area stays while the store is read
 pub keeps_spare_on : (area : Area) (a m d : View) → IsLawful a → IsLawful m → m.told → KeepsArea area a m → Looks m d → KeepsArea area a d
 keeps_spare_on area a m d lawful lawful' told first looks = area_on area a m d lawful lawful' first (area_kept area m d (λ p. p ≡ m.printed) (looks.images told) (looks.time told))
 
 -- a session over the batches that were read
-pub started : (a m d : View) (reader : Head) (state : SessionState) → a.is_attached → Continues a m → Looks m d → (a.told → Recovered a m reader) → (m.told → Stores d state.keeper (database_in state)) → state.failed ≡ None → IsStarted a d state
-started a m d reader state attached on looks recovered stores is_open = record {
+pub started : (a m d : View) (reader : Head) (state : SessionState) → a.is_attached → Continues a m → Looks m d → (a.told → Recovered a m reader) → (m.told → Stores d state.keeper (database_in state)) → IsSound (database_in state) → state.failed ≡ None → IsStarted a d state
+started a m d reader state attached on looks recovered stores sound is_open = record {
   ready = record {
     is_open = is_open;
     attached = looks.continues.is_attached (on.is_attached attached);
+    sound = sound;
     opens_to = λ told c left. stores_open d state.keeper (database_in state) (kept told) c left;
     store = kept;
   };
   opened = λ told. opens_by a.seen state.keeper.area (stores (on.told told)).list (database_in state) (found told) (stores (on.told told)).leads;
-  spare = λ told. spare_found a.seen (record { area = state.keeper.area; list = (stores (on.told told)).list }) (found told);
+  same = λ told. ap batches (looks.images (on.told told)).seen ∙ (recovered told).same;
   synced = λ told. let it = (recovered told).synced in (it.0, it.1, (looks.images (on.told told)).synced ∙ it.2);
 }
   where

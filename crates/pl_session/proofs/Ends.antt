@@ -7,6 +7,7 @@ use Rattle.pl_meaning.specs.Database.{Database}
 use Rattle.pl_meaning.specs.Meaning.{commits_or}
 use Rattle.pl_meaning.specs.Replies.{error_line}
 use Rattle.pl_meaning.specs.Trace.{Event, Said, Failed, Committed, is_failed}
+use Rattle.pl_meaning.specs.Whole.{IsSound}
 use Rattle.pl_print.specs.Grids.{grid_bytes}
 use Rattle.pl_print.specs.Tags.{tag_bytes}
 use Rattle.pl_session.specs.Replies.{lines_of, event_of}
@@ -47,12 +48,13 @@ module _ (a d : View) (before after : SessionState) (line : List ℕ) (ready : I
         (record { ready = still_ready a d before after ready on keeps open_still keeper db; database = db; printed = text_printed }, refl)
 
     -- a command was committed and answered
-    pub commits_done : (next : Database) → Committed next ∷ Said line ∷ [] ≡ events → (a.told → Stores d after.keeper next) → database_in after ≡ next → StepEnd a d before after events (Ok false)
-    commits_done next is store db = subst (λ (es : List Event). StepEnd a d before after es (Ok false)) is (
+    pub commits_done : (next : Database) → Committed next ∷ Said line ∷ [] ≡ events → (a.told → Stores d after.keeper next) → IsSound next → database_in after ≡ next → StepEnd a d before after events (Ok false)
+    commits_done next is store sound db = subst (λ (es : List Event). StepEnd a d before after es (Ok false)) is (
       record {
         ready = record {
           is_open = open_still ∙ ready.is_open;
           attached = on.is_attached ready.attached;
+          sound = subst (λ (e : Database). IsSound e) (sym db) sound;
           opens_to = λ told c left. stores_open d after.keeper (database_in after) (kept told) c left;
           store = kept;
         };

@@ -2,6 +2,7 @@
 use Rattle.std.proofs.Common.{◌≡◌, ◌++◌, ℕ, List, [], ◌∷◌, true, false, Option, Some, None, Result, Ok, Err, IsErrAnd, sym, ◌∙◌, ap, subst}
 use Rattle.std.specs.Prelude.{IfErr}
 use Rattle.pl_base.specs.declared.area.Area.{Area}
+use Rattle.pl_base.specs.declared.operation.Op.{Op}
 use Rattle.pl_disk.specs.Disk.{View, Looks}
 use Rattle.pl_frames.specs.Cause.{HasCause}
 use Rattle.pl_frames.specs.declared.fail.FrameFail.{FrameFail}
@@ -13,12 +14,14 @@ use Rattle.pl_keeper.specs.declared.head.Head.{Head}
 use Rattle.pl_meaning.specs.Database.{Database}
 use Rattle.pl_meaning.specs.Opening.{opens}
 use Rattle.pl_meaning.specs.Operation.{apply_all}
+use Rattle.pl_meaning.specs.Whole.{IsSound}
+use Rattle.pl_meaning.proofs.Lent.{apply_all_keeps}
 use Rattle.pl_session.specs.Halts.{start_fail_of}
 use Rattle.pl_session.specs.Starts.{HasStartCause}
-use Rattle.pl_session.specs.Steps.{LeadsTo}
+use Rattle.pl_session.specs.Steps.{LeadsTo, SoundUnless}
 use Rattle.pl_session.specs.Tables.{database_of, AllApply}
 use Rattle.pl_session.specs.declared.halt.StartFail.{StartFail}
-use Rattle.pl_session.specs.declared.tables.Table.{Table}
+use Rattle.pl_session.specs.declared.table.Table.{Table}
 use Rattle.pl_session.proofs.Opens.{apply_batches-stopped, leads_on, stops_at}
 use Rattle.pl_session.proofs.Begins.{form_damaged, none_applies, rises_since}
 
@@ -31,6 +34,16 @@ leads_no_more list batch old new db is none = stops_at list batch.at batch.ops.i
 
 pub still_stopped : (list : List Stored) (batch : Batch) (old : List Table) (at : ℕ) → LeadsTo list old (Some at) → LeadsTo (list ++ stored batch ∷ []) old (Some at)
 still_stopped list batch old at is = apply_batches-stopped list (stored batch ∷ []) [] at is
+
+-- and the tables are sound still, unless it didn't apply
+pub sound_more : (ops : List Op) (old new : List Table) → AllApply true (database_of new) (apply_all ops (database_of old)) → IsSound (database_of old) → IsSound (database_of new)
+sound_more ops old new done sound = apply_all_keeps ops (database_of old) (database_of new) done sound
+
+pub never_sound : (at : ℕ) (tables : List Table) → SoundUnless (Some at) tables
+never_sound at tables none = absurd (some_none at none)
+  where
+    some_none : (at : ℕ) → (let o : Option ℕ = Some at in o ≡ None) → ⊥
+    some_none at h = cc
 
 -- what is known while a store is read
 pub record Folded (v : View) (reader : Head) (tables : List Table) (stopped : Option ℕ) : Type 0 where

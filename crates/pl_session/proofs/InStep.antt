@@ -5,7 +5,7 @@ use Rattle.pl_catalog.specs.declared.object.Object.{Object as Entry}
 use Rattle.pl_meaning.specs.Catalogue.{catalogue_of, entry_of}
 use Rattle.pl_meaning.specs.Database.{Object}
 use Rattle.pl_session.specs.Tables.{database_of, object_of}
-use Rattle.pl_session.specs.declared.tables.Table.{Table}
+use Rattle.pl_session.specs.declared.table.Table.{Table}
 
 abbrev entries : List Table → List Entry
 entries tables = map entry_of (database_of tables)

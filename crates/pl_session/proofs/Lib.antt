@@ -4,9 +4,11 @@ pub mod Answering
 pub mod Planned
 pub mod Opens
 pub mod Applying
+pub mod Spelled
 pub mod Folding
 pub mod Begins
 pub mod Says
+pub mod Kept
 pub mod Ends
 pub mod Scripts
 pub mod Progress

@@ -14,7 +14,7 @@ use Rattle.pl_base.specs.declared.value.Value.{Value}
 use Rattle.pl_meaning.specs.Database.{Database, Column, Object, TableObject, Table as TableValue, has, empty_table, define, fits, has_row, integer_column, with_row, without_row, MOST_ROWS, put_in, remove_in, in_object, in_table, is_named, next_in, next_of}
 use Rattle.pl_meaning.specs.Selection.{rows_in, table_rows}
 use Rattle.pl_session.specs.Tables.{table_of, object_of, database_of, Becomes}
-use Rattle.pl_session.specs.declared.tables.Table.{Table}
+use Rattle.pl_session.specs.declared.table.Table.{Table}
 
 no_place : (n m : ℕ) → (let o : Option ℕ = cond (nat_lt n m) (Some n) None in o ≡ None) → m ≤ n
 no_place n m is = grind (arith, nat_tests)

@@ -13,6 +13,8 @@ use Rattle.pl_keeper.specs.declared.head.Head.{Head}
 use Rattle.pl_meaning.specs.Database.{Database}
 use Rattle.pl_meaning.specs.Opening.{apply_batches, in_area, opened_by, opens}
 use Rattle.pl_meaning.specs.Operation.{apply_all, apply_payload}
+use Rattle.pl_meaning.specs.Whole.{IsSound}
+use Rattle.pl_meaning.proofs.Lent.{apply_all_keeps}
 use Rattle.pl_session.specs.State.{database_in, Stores, IsReady}
 use Rattle.pl_session.specs.declared.state.SessionState.{SessionState}
 
@@ -52,6 +54,10 @@ stops_at list at ops db leads none = apply_batches-append list ((at, ops) ∷ []
 pub spelled_by : (payload : List ℕ) (db next : Database) → apply_payload payload db ≡ Some next → (ops : List Op) × (operations_of payload ≡ Some ops) × (apply_all ops db ≡ Some next)
 spelled_by payload db next done = option_and_then_some (λ ops. apply_all ops db) (operations_of payload) next done (λ ops spelled leads. (ops, spelled, leads))
 
+-- a payload keeps a database sound
+pub payload_keeps : (payload : List ℕ) (db next : Database) → apply_payload payload db ≡ Some next → IsSound db → IsSound next
+payload_keeps payload db next done sound = let it = spelled_by payload db next done in apply_all_keeps it.0 db next it.2 sound
+
 pub opens_by : (c : Image) (area : Area) (list : List Stored) (db : Database) → batches c ≡ Ok (record { area = area; list = list }) → apply_batches list [] ≡ Ok db → opens c ≡ Ok db
 unfolding opens
 opens_by c area list db has leads = ap (λ (r : Result Log Damage). opened_by r) has ∙ ap (λ (r : Result Database ℕ). in_area area r) leads
@@ -90,6 +96,7 @@ pub still_ready : (a d : View) (before after : SessionState) → IsReady a befor
 still_ready a d before after was on keeps failed keeper db = record {
   is_open = failed ∙ was.is_open;
   attached = on.is_attached was.attached;
+  sound = subst (λ (e : Database). IsSound e) (sym db) was.sound;
   opens_to = λ told c left. was.opens_to (on.told_before told) c ((keeps (on.told_before told)).crash c left) ∙ ap (λ (e : Database). let r : Result Database Damage = Ok e in r) (sym db);
   store = λ told. let t = on.told_before told in let same = stores_still a d before.keeper (database_in before) (keeps t) (was.store t) in
       subst (λ (e : Database). Stores d after.keeper e) (sym db) (subst (λ (k : Head). Stores d k (database_in before)) (sym keeper) same);

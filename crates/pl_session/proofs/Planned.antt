@@ -17,13 +17,13 @@ use Rattle.pl_meaning.specs.Trace.{Failed}
 use Rattle.pl_meaning.specs.Replies.{created, duplicate_table, inserted, limit_exceeded}
 use Rattle.pl_meaning.specs.declared.form.IntegerTable.{IntegerTable}
 use Rattle.pl_session.specs.Plans.{Spells}
-use Rattle.pl_session.specs.Tables.{changed}
+use Rattle.pl_session.specs.Tables.{HasText, changed}
 use Rattle.pl_session.specs.declared.tables.Change.{Change}
 use Rattle.pl_session.specs.declared.tables.Change.TheVariants.{Create}
 
 -- a definition makes the table of its text
-pub creates_table : (found : Option IntegerTable) (made : IntegerTable) (db : Database) → found ≡ Some made → creates found db ≡ commits_or created duplicate_table (changed (Create made) db)
-creates_table text made db is = ap (λ (o : Option IntegerTable). creates o db) is
+pub creates_table : (found : Option IntegerTable) (made : IntegerTable) (text : List ℕ) (db : Database) → found ≡ Some made → creates found db ≡ commits_or created duplicate_table (changed (Create made text) db)
+creates_table found made text db is = ap (λ (o : Option IntegerTable). creates o db) is
 
 -- the payload of one operation
 pub one_applied : (payload : List ℕ) (op : Op) (db : Database) → operations_of payload ≡ Some (op ∷ []) → apply_payload payload db ≡ apply op db
@@ -33,16 +33,17 @@ one_applied payload op db is = ap (λ (o : Option (List Op)). option_and_then (�
     same None = refl
     same (Some next) = refl
 
-pub spells_one : (payload : List ℕ) (op : Op) (change : Change) (db : Database) → operations_of payload ≡ Some (op ∷ []) → changed change db ≡ apply op db → Spells payload change db
-spells_one payload op change db is same = record {
+pub spells_one : (payload : List ℕ) (op : Op) (change : Change) (db : Database) → HasText change → operations_of payload ≡ Some (op ∷ []) → changed change db ≡ apply op db → Spells payload change db
+spells_one payload op change db text is same = record {
+  text = text;
   spelling = ap (λ (o : Option (List Op)). is_some o) is;
   same = same ∙ sym (one_applied payload op db is);
 }
 
 -- and so does the operation that has it
-pub spells_table : (payload text : List ℕ) (made : IntegerTable) (db : Database) → definition_in text ≡ Some made → operations_of payload ≡ Some (Define text ∷ []) → Spells payload (Create made) db
-spells_table payload text made db is spelled =
-    spells_one payload (Define text) (Create made) db spelled (sym (ap (λ (o : Option IntegerTable). define_by o db) is))
+pub spells_table : (payload text copy : List ℕ) (made : IntegerTable) (db : Database) → copy ≡ text → definition_in text ≡ Some made → operations_of payload ≡ Some (Define text ∷ []) → Spells payload (Create made copy) db
+spells_table payload text copy made db same is spelled =
+    spells_one payload (Define text) (Create made copy) db (ap definition_in same ∙ is) spelled (sym (ap (λ (o : Option IntegerTable). define_by o db) is))
 
 -- a row of one number can be stored
 pub row_stored : (table : List ℕ) (id : ℕ) (number : ℤ) (row : List Value) → row ≡ value.Int number ∷ [] → is_table_name table ≡ true → is_row_id id ≡ true → is_stored_op (Put table id row) ≡ true

@@ -3,7 +3,7 @@ use Rattle.std.proofs.Common.{◌≡◌, ◌<◌, ◌≤◌, ◌-◌, ◌^◌, �
 use Rattle.std.specs.Prelude.{if◌then◌else◌}
 use Rattle.std.proofs.lemmas.List.{append-nil}
 use Rattle.std.proofs.Math.Nat.{eq-or-lt_of_le}
-use Rattle.pl_disk.specs.Disk.{View, Continues, Rises}
+use Rattle.pl_disk.specs.Disk.{View, Rises}
 use Rattle.pl_disk.specs.Lent.{no_run}
 use Rattle.pl_keeper.specs.Batches.{Damage}
 use Rattle.pl_lex.specs.Characters.{Text}
@@ -13,10 +13,10 @@ use Rattle.pl_meaning.specs.Meaning.{AreOfFirst, events, trace, Readings}
 use Rattle.pl_meaning.specs.Trace.{Event, is_failed, text, last_commit}
 use Rattle.pl_meaning.specs.declared.reading.Reading.{Reading}
 use Rattle.pl_meaning.proofs.Lent.{text-append, last_commit-append, is_failed-append, both_no, trace-append, trace-one, trace-last, readings_some}
-use Rattle.pl_session.specs.Endings.{RunsAlong, GoesOn, PrintsWhole, StopsBy}
+use Rattle.pl_session.specs.Endings.{RunsAlong, Done, GoesOn, PrintsWhole, StopsBy}
 use Rattle.pl_session.specs.Scripts.{Left}
 use Rattle.pl_session.specs.State.{database_in, IsReady}
-use Rattle.pl_session.specs.Steps.{Idle, StepCause}
+use Rattle.pl_session.specs.Steps.{Idle, PieceCause}
 use Rattle.pl_session.specs.declared.halt.Stop.{Stop}
 use Rattle.pl_session.specs.declared.halt.Stop.TheVariants.{Disk, Say, Memory}
 use Rattle.pl_session.specs.declared.state.SessionState.{SessionState}
@@ -124,6 +124,23 @@ module _ (a b : View) (stops : Bool) (script : Text) (at : ℕ) (db current : Da
     reached_more : (after : Database) → after ≡ last_commit now current → after ≡ last_commit (done ++ now) db
     reached_more after is = is ∙ ap (λ (e : Database). last_commit now e) was.reached ∙ sym (last_commit-append done now db)
 
+    -- a whole number of them is done then, too
+    of_first_more : AreOfFirst script stops db (done ++ now)
+    of_first_more = (first, others, subst (λ (rs : List Reading). Readings script rs) all_more (readings_some script), sym one_more)
+
+    pub says_more : (a.told → d.printed ≡ b.printed ++ text now) → PrintsWhole a d script stops db
+    says_more said = (done ++ now, of_first_more, λ told. printed_more said told)
+
+    pub as_many : (a.told → Done b d now current) → StopsBy a d script stops db Memory
+    as_many all = (
+      done ++ now,
+      of_first_more,
+      λ told. record {
+        printed = printed_more (λ t. (all t).printed) told;
+        opens_to = λ c left. (all told).opens_to c left ∙ ap (λ (e : Database). let r : Result Database Damage = Ok e in r) (reached_more (last_commit now current) refl);
+      },
+    )
+
     -- one piece more
     pub one_piece : (place : ℕ) (after : Database) → Left script place others → (stops && is_failed now) ≡ false → (a.told → d.printed ≡ b.printed ++ text now) → after ≡ last_commit now current → Progress a d stops script place db after
     one_piece place after left goes_on said is = record {
@@ -170,11 +187,18 @@ rises_since a b d h k rises below =
     ⊎_elim (λ same. let low : b < 2 ^ 64 - 1 = omega (arith, same, below) in let rose = rises low in omega (arith, same, rose)) (λ less. omega (arith, less, k)) (eq-or-lt_of_le h)
 
 -- why a piece stopped is why the script did
-pub stops_by : (a b d : View) (stops : Bool) (script : Text) (at : ℕ) (db current : Database) (was : Progress a b stops script at db current) (state : SessionState) (why : Stop)
-    → IsReady b state → database_in state ≡ current → Continues b d → StepCause b d why → StopsBy a d script stops db why
-stops_by a b d stops script at db current was state Disk ready is on cause = (
-  rises_since a.disk_faults b.disk_faults d.disk_faults was.moments.continues.disk_faults on.disk_faults cause.0,
-  says_whole a b stops script at db current was d (λ t. was.moments.continues.told t) cause.1,
-)
-stops_by a b d stops script at db current was state Say ready is on cause = rises_since a.say_faults b.say_faults d.say_faults was.moments.continues.say_faults on.say_faults cause
-stops_by a b d stops script at db current was state Memory ready is on cause = so_many a b stops script at db current was d state ready is (λ t. was.moments.continues.told t) cause
+module _ (a b d : View) (stops : Bool) (script : Text) (at : ℕ) (db current : Database) (was : Progress a b stops script at db current)
+    (reading : Reading) (others : List Reading) (next : was.rest ≡ reading ∷ others) (run : RunsAlong b d (events reading current) current) where
+  told_then : a.told → b.told
+  told_then told = was.moments.continues.told told
+
+  pub stops_by : (state : SessionState) (why : Stop) → IsReady b state → database_in state ≡ current → PieceCause b d (events reading current) current why → StopsBy a d script stops db why
+  stops_by state Disk ready is cause = (
+    rises_since a.disk_faults b.disk_faults d.disk_faults was.moments.continues.disk_faults run.continues.disk_faults cause.0,
+    ⊎_elim (λ same. says_whole a b stops script at db current was d told_then same)
+        (λ said. says_more a b stops script at db current was d reading others next run (λ t. said (told_then t))) cause.1,
+  )
+  stops_by state Say ready is cause = rises_since a.say_faults b.say_faults d.say_faults was.moments.continues.say_faults run.continues.say_faults cause
+  stops_by state Memory ready is cause =
+      ⊎_elim (λ idle. so_many a b stops script at db current was d state ready is told_then idle)
+      (λ all. as_many a b stops script at db current was d reading others next run (λ t. all (told_then t))) cause

@@ -1,8 +1,10 @@
 pub mod Halts
+pub mod Texts
 pub mod Tables
 pub mod Replies
 pub mod Plans
 pub mod State
+pub mod Short
 pub mod Starts
 pub mod Endings
 pub mod Steps

@@ -9,13 +9,14 @@ use Rattle.pl_meaning.specs.Replies.{error_line}
 use Rattle.pl_meaning.specs.Trace.{Event}
 use Rattle.pl_meaning.specs.declared.reading.Reading.{Reading}
 use Rattle.pl_session.specs.Replies.{event_of}
-use Rattle.pl_session.specs.Tables.{changed}
+use Rattle.pl_session.specs.Tables.{HasText, changed}
 use Rattle.pl_session.specs.declared.plan.Plan.{Plan}
 use Rattle.pl_session.specs.declared.plan.Plan.TheVariants.{Nothing, Answers, Tries}
 use Rattle.pl_session.specs.declared.tables.Change.{Change}
 
--- the payload spells operations, which make this change
+-- the payload spells operations, which make this change, and a new table has its text
 pub record Spells (payload : List ℕ) (change : Change) (db : Database) : Type 0 where
+  pub text : HasText change
   pub spelling : is_some (operations_of payload) ≡ true
   pub same : changed change db ≡ apply_payload payload db
 

@@ -2,9 +2,8 @@
 use Rattle.std.specs.Prelude.{◌≡◌, ◌⊎◌, ◌++◌, ◌∷◌, ℕ, List, Ok, Err}
 use Rattle.pl_base.specs.Image.{Image}
 use Rattle.pl_disk.specs.Disk.{View, Rises}
-use Rattle.pl_keeper.specs.Batches.{spare_area}
+use Rattle.pl_keeper.specs.Batches.{batches}
 use Rattle.pl_meaning.specs.Opening.{opens}
-use Rattle.pl_session.specs.Spare.{spare_in}
 use Rattle.pl_session.specs.State.{database_in, IsReady}
 use Rattle.pl_session.specs.declared.halt.StartFail.{StartFail}
 use Rattle.pl_session.specs.declared.halt.StartFail.TheVariants.{Disk, Damaged, Memory}
@@ -19,12 +18,12 @@ pub record StartPair (v : View) (p : List ℕ) (c : Image) : Type 0 where
 abbrev pub OpensSame : View → List ℕ → Image → Type 0
 OpensSame v p c = (p ≡ v.printed) × (opens c ≡ opens v.seen)
 
--- After Ok: a sync succeeded, and the session is ready with the database that the files opened to. It leaves the area alone that
--- doesn't count.
+-- After Ok: a sync succeeded, and the session is ready with the database that the files opened to, whose batches are those of the
+-- files from before.
 pub record IsStarted (old new : View) (state : SessionState) : Type 0 where
   pub ready : IsReady new state
   pub opened : old.told → opens old.seen ≡ Ok (database_in state)
-  pub spare : old.told → spare_in state ≡ spare_area old.seen
+  pub same : old.told → batches new.seen ≡ batches old.seen
   pub synced : old.told → (t : ℕ) × (later : List ℕ) × (new.synced ≡ old.synced ++ t ∷ later)
 
 -- Why a store wasn't opened, a line an ending: the count of the disk's failures rose; the files open to nothing, and this is the

@@ -7,6 +7,7 @@ use Rattle.pl_keeper.specs.Store.{IsStore}
 use Rattle.pl_keeper.specs.declared.head.Head.{Head}
 use Rattle.pl_meaning.specs.Database.{Database}
 use Rattle.pl_meaning.specs.Opening.{apply_batches, opens}
+use Rattle.pl_meaning.specs.Whole.{IsSound}
 use Rattle.pl_session.specs.Tables.{database_of}
 use Rattle.pl_session.specs.declared.state.SessionState.{SessionState}
 
@@ -22,9 +23,10 @@ pub record Stores (v : View) (keeper : Head) (db : Database) : Type 0 where
 
 -- What a call of a session begins with, and what it leaves after Ok: the session is open, its host
 -- has a store, and every crash leaves files that open to its database (`store` is how its keeper
--- knows them).
+-- knows them, `sound` what the database has to be to be written anew).
 pub record IsReady (v : View) (state : SessionState) : Type 0 where
   pub is_open : state.failed ≡ None
   pub attached : v.is_attached
+  pub sound : IsSound (database_in state)
   pub opens_to : v.told → (c : Image) → v.may_leave c → opens c ≡ Ok (database_in state)
   pub store : v.told → Stores v state.keeper (database_in state)

@@ -43,7 +43,8 @@ impl From<FrameFail> for StartFail {
 /// opened anew.
 #[derive(Clone, Copy, Debug, PartialEq, Eq)]
 pub enum Stop {
-    /// A call of the disk failed. The command that ran then is stored or isn't.
+    /// A call of the disk failed. The command that ran then is stored or isn't; where its reply was
+    /// printed it is, and the database was to be written anew.
     Disk,
     /// A reply wasn't printed wholly.
     Say,

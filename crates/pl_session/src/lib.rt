@@ -2,12 +2,14 @@
 #![tactic(auto)]
 
 mod halt;
+mod keeping;
 mod opening;
 mod plan;
 mod query;
 mod reply;
 mod script;
 mod state;
+mod table;
 mod tables;
 
 pub use halt::{Ended, Halt, Outcome, StartFail, Stop};

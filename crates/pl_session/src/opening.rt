@@ -5,9 +5,10 @@ ghost use Rattle.std.specs.Prelude.{◌<◌, ◌^◌, ◌++◌, ◌∷◌, [], L
 ghost use Rattle.pl_disk.specs.Disk.{Looks};
 ghost use Rattle.pl_keeper.specs.Batches.{Stored};
 ghost use Rattle.pl_keeper.specs.Store.{IsReading, stored};
+ghost use Rattle.pl_meaning.specs.Whole.{IsSound};
 ghost use Rattle.pl_session.specs.Starts.{HasStartCause};
 ghost use Rattle.pl_session.specs.State.{Stores};
-ghost use Rattle.pl_session.specs.Steps.{LeadsTo};
+ghost use Rattle.pl_session.specs.Steps.{LeadsTo, SoundUnless};
 ghost use Rattle.pl_session.specs.Tables.{database_of};
 
 use crate::halt::StartFail;
@@ -24,8 +25,10 @@ fn apply_next(
     stopped: Option<u64>,
     batch: Batch,
 ) -> Result<Option<u64>, Memory>
-    ensures { (list : List Stored) → LeadsTo list tables.old.list.items stopped
+    ensures leads { (list : List Stored) → LeadsTo list tables.old.list.items stopped
         → IfOk result (LeadsTo (list ++ stored batch ∷ []) tables.new.list.items) }
+    ensures sound { SoundUnless stopped tables.old.list.items
+        → IfOk result (λ stopped. SoundUnless stopped tables.new.list.items) }
 {
     let None = stopped else {
         return Ok(stopped);
@@ -51,6 +54,7 @@ pub fn fold<H: Host>(
     ensures looks { Looks (H.view host.old) (H.view host.new) }
     ensures folded { (H.view host.old).told → IfOk result (λ folded.
         Stores (H.view host.new) folded.1 (database_of folded.0.list.items)) }
+    ensures sound { IfOk result (λ folded. IsSound (database_of folded.0.list.items)) }
     ensures cause { IfErr result (HasStartCause (H.view host.old) (H.view host.new)) }
 {
     let mut reader = reader;

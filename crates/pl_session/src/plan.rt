@@ -95,11 +95,12 @@ fn plan_create(
     let Some(made) = table_by(&definition, source.as_bytes()) else {
         return Ok(fails(State::FEATURE_NOT_SUPPORTED));
     };
+    let text = source.copy(alloc)?;
     let op = Op::Define { text: source };
     let payload = encode(alloc, &op)?;
     Ok(Plan::Tries {
         payload,
-        change: Change::Create(made),
+        change: Change::Create { made, text },
         reply: Tag::CreateTable,
         error: State::DUPLICATE_TABLE,
     })

@@ -1,11 +1,10 @@
 //! A session: the database in memory, and the keeper of the store that holds it.
 
-ghost use Rattle.std.specs.Prelude.{true, ◌≡◌, ◌&&◌, ◌++◌, ◌∷◌, [], Some, None, Err, is_some, IfOk, IfErr, OnOk, IsErrOf};
-ghost use Rattle.pl_base.specs.Image.{other};
-ghost use Rattle.pl_base.specs.declared.area.Area.{Area};
+ghost use Rattle.std.specs.Prelude.{true, false, ◌≡◌, ◌&&◌, ◌++◌, ◌∷◌, [], Some, None, Err, is_some, IfOk, IfErr, OnOk, IsErrOf};
 ghost use Rattle.pl_codec.specs.Reading.{operations_of};
 ghost use Rattle.pl_disk.specs.Disk.{Keeps, Runs, Settled, Untouched};
 ghost use Rattle.pl_keeper.specs.Batches.{Damage, spare_area};
+ghost use Rattle.pl_keeper.specs.Checkpoint.{is_due};
 ghost use Rattle.pl_meaning.specs.Computed.{MeansAlike};
 ghost use Rattle.pl_meaning.specs.Database.{Database};
 ghost use Rattle.pl_meaning.specs.Meaning.{events, commits_or};
@@ -17,15 +16,17 @@ ghost use Rattle.pl_print.specs.Tags.{tag_bytes};
 ghost use Rattle.pl_session.specs.Endings.{OfTrace, RunsAlong, GoesOn, StopsBy, HasCause, outcome_of, ended_of};
 ghost use Rattle.pl_session.specs.Plans.{Spells};
 ghost use Rattle.pl_session.specs.Replies.{lines_of, event_of};
-ghost use Rattle.pl_session.specs.Spare.{KeepsArea, spare_in};
+ghost use Rattle.pl_session.specs.Short.{StaysShort};
+ghost use Rattle.pl_session.specs.Spare.{KeepsArea};
 ghost use Rattle.pl_session.specs.Starts.{StartPair, OpensSame, IsStarted, HasStartCause};
 ghost use Rattle.pl_session.specs.State.{database_in, Stores, IsReady};
-ghost use Rattle.pl_session.specs.Steps.{AllOpen, StepCause, StepEnd};
+ghost use Rattle.pl_session.specs.Steps.{AllOpen, PieceEnd, StepCause, StepEnd};
 ghost use Rattle.pl_session.specs.Tables.{changed};
 ghost use Rattle.pl_session.specs.declared.halt.Halt.TheVariants.{Closed};
 ghost use Rattle.pl_session.specs.declared.halt.Stop.{Stop};
 
 use crate::halt::{Ended, Halt, Outcome, StartFail, Stop};
+use crate::keeping::keep_short;
 use crate::opening::fold;
 use crate::plan::{Plan, plan_of};
 use crate::reply::Reply;
@@ -56,8 +57,6 @@ fn answer<H: Host>(alloc: Global, host: &mut H, reply: Reply) -> Result<(), Stop
     ensures printed { (H.view host.old).told
         → OnOk result ((H.view host.new).printed ≡ (H.view host.old).printed ++ lines_of reply) }
     ensures cause { IfErr result (StepCause (H.view host.old) (H.view host.new)) }
-    ensures files { (H.view host.old).told → (area : Area)
-        → KeepsArea area (H.view host.old) (H.view host.new) }
 {
     let lines = reply.lines(alloc)?;
     match host.say(lines.as_slice()) {
@@ -90,9 +89,6 @@ fn commit_then_answer<H: Host>(
     ensures printed { (H.view host.old).told
         → OnOk result ((H.view host.new).printed ≡ (H.view host.old).printed ++ tag_bytes reply) }
     ensures cause { IfErr result (StepCause (H.view host.old) (H.view host.new)) }
-    ensures area { keeper.new.area ≡ keeper.old.area }
-    ensures spare { (H.view host.old).told
-        → KeepsArea (other keeper.old.area) (H.view host.old) (H.view host.new) }
 {
     let line = Reply::Done(reply).lines(alloc)?;
     match keeper.commit_payload(alloc, host, payload) {
@@ -125,9 +121,6 @@ fn try_change<H: Host>(
     ensures ended { StepEnd (H.view host.old) (H.view host.new) state.old state.new
         (commits_or (tag_bytes reply) (error_line error) (changed change (database_in state.old)))
         result }
-    ensures area { spare_in state.new ≡ spare_in state.old }
-    ensures spare { (H.view host.old).told
-        → KeepsArea (spare_in state.old) (H.view host.old) (H.view host.new) }
 {
     if !state.tables.change(change)? {
         answer(state.alloc, host, Reply::Fails(error))?;
@@ -199,9 +192,6 @@ impl SessionState {
             (events reading (database_in self.old)) (database_in self.old) }
         ensures ended { StepEnd (H.view host.old) (H.view host.new) self.old self.new
             (events reading (database_in self.old)) result }
-        ensures area { spare_in self.new ≡ spare_in self.old }
-        ensures spare { (H.view host.old).told
-            → KeepsArea (spare_in self.old) (H.view host.old) (H.view host.new) }
     {
         match plan_of(self.alloc, &self.tables, reading)? {
             Plan::Nothing => Ok(false),
@@ -217,6 +207,22 @@ impl SessionState {
                 error,
             } => try_change(self, host, payload.as_slice(), change, reply, error),
         }
+    }
+
+    // Runs what a piece of a script is read as, and writes the database anew once its reply was
+    // said, where that is due. The answer is whether it was an error.
+    fn run_piece<H: Host>(&mut self, host: &mut H, reading: Reading) -> Result<bool, Stop>
+        requires ready { IsReady (H.view host.old) self.old }
+        requires alike { MeansAlike reading }
+        ensures moments { RunsAlong (H.view host.old) (H.view host.new)
+            (events reading (database_in self.old)) (database_in self.old) }
+        ensures ended { PieceEnd (H.view host.old) (H.view host.new) self.old self.new
+            (events reading (database_in self.old)) result }
+        ensures short { OnOk result (is_due self.new.keeper ≡ false) }
+    {
+        let failed = self.run_reading(host, reading)?;
+        keep_short(&mut self.keeper, self.alloc, host, &self.tables)?;
+        Ok(failed)
     }
 
     // Runs the pieces of a script in order, up to the first error where it stops on errors.
@@ -236,18 +242,16 @@ impl SessionState {
         ensures ended { OfTrace script.now stops (database_in self.old)
             (λ events. IfOk result (λ ended. ended ≡ ended_of (stops && is_failed events))) }
         ensures ready { OnOk result (IsReady (H.view host.new) self.new) }
+        ensures short { OnOk result (StaysShort self.new.keeper host.old host.new) }
         ensures cause { IfErr result
             (StopsBy (H.view host.old) (H.view host.new) script.now stops (database_in self.old)) }
-        ensures area { spare_in self.new ≡ spare_in self.old }
-        ensures spare { (H.view host.old).told
-            → KeepsArea (spare_in self.old) (H.view host.old) (H.view host.new) }
     {
         let mut at = 0;
         'pieces: loop {
             let Some(next) = read_next(self.alloc, script, at)? else {
                 return Ok(Ended::Whole);
             };
-            let failed = self.run_reading(host, next.reading)?;
+            let failed = self.run_piece(host, next.reading)?;
             if ends_at(stops, failed) {
                 return Ok(Ended::AtError);
             }
@@ -257,6 +261,9 @@ impl SessionState {
 
     /// Runs one command, and prints its answer once it is committed. A text of several commands is
     /// run up to its first error.
+    ///
+    /// After each command's reply the whole database is written anew into the other area, where
+    /// that is due, and this may fail too.
     ///
     /// `Closed` comes where the session had stopped before; then nothing is done. `Stopped` comes
     /// where a call of the host failed or there was no memory; the session is closed from then on.
@@ -274,6 +281,9 @@ impl SessionState {
             (λ events. OnOk result
             (GoesOn (H.view host.old) (H.view host.new) self.old self.new events)) }
         ensures ready_again { OnOk result (IsReady (H.view host.new) self.new) }
+
+        // No checkpoint is due then, or nothing was done, since there was no command.
+        ensures short { OnOk result (StaysShort self.new.keeper host.old host.new) }
         ensures outcome { OfTrace text.now true (database_in self.old)
             (λ events. IfOk result (λ outcome. outcome ≡ outcome_of (is_failed events))) }
 
@@ -281,11 +291,6 @@ impl SessionState {
         ensures cause { IfErr result
             (HasCause H.view host.old host.new self.old self.new text.now true) }
         ensures closed { (why : Stop) → self.old.failed ≡ Some why → IsErrOf result (Closed why) }
-
-        // The area that doesn't count stays as it is, and doesn't count afterwards either.
-        ensures area { spare_in self.new ≡ spare_in self.old }
-        ensures spare { (H.view host.old).told
-            → KeepsArea (spare_in self.old) (H.view host.old) (H.view host.new) }
     {
         match self.run_script(host, text, true) {
             Ok(Ended::Whole) => Ok(Outcome::Fine),
@@ -317,6 +322,9 @@ impl SessionState {
             (λ events. OnOk result
             (GoesOn (H.view host.old) (H.view host.new) self.old self.new events)) }
         ensures ready_again { OnOk result (IsReady (H.view host.new) self.new) }
+
+        // No checkpoint is due then, or nothing was done, since there was no command.
+        ensures short { OnOk result (StaysShort self.new.keeper host.old host.new) }
         ensures ended { OfTrace script.now stops_on_error (database_in self.old)
             (λ events. IfOk result
             (λ ended. ended ≡ ended_of (stops_on_error && is_failed events))) }
@@ -325,11 +333,6 @@ impl SessionState {
         ensures cause { IfErr result
             (HasCause H.view host.old host.new self.old self.new script.now stops_on_error) }
         ensures closed { (why : Stop) → self.old.failed ≡ Some why → IsErrOf result (Closed why) }
-
-        // The area that doesn't count stays as it is, and doesn't count afterwards either.
-        ensures area { spare_in self.new ≡ spare_in self.old }
-        ensures spare { (H.view host.old).told
-            → KeepsArea (spare_in self.old) (H.view host.old) (H.view host.new) }
     {
         if let Some(why) = self.failed {
             return Err(Halt::Closed(why));

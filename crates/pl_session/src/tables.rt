@@ -1,126 +1,30 @@
 //! The database in memory.
 
-ghost use Rattle.std.specs.Prelude.{◌≡◌, ◌<◌, ◌^◌, ◌&&◌, ◌||◌, [], length, IfOk, nat_eq, nat_le, nat_lt};
+ghost use Rattle.std.specs.Prelude.{◌≡◌, ◌<◌, ◌^◌, [], Some, IfOk, nat_eq};
 ghost use Rattle.std.specs.Coded.{Coded-set, coded_list};
 ghost use Rattle.std.specs.List.{position};
 ghost use Rattle.std.specs.Cmp.Lexicographic.{pointwise};
 ghost use Rattle.pl_catalog.specs.contracts.object.Object as object;
 ghost use Rattle.pl_meaning.specs.Catalogue as catalogue;
-ghost use Rattle.pl_meaning.specs.Database as database;
-ghost use Rattle.pl_meaning.specs.Database.{empty_table, fits, has_row, integer_column, define, next_of};
-ghost use Rattle.pl_meaning.specs.Database.{put_in, put, remove_in, remove, raise_in, raise};
+ghost use Rattle.pl_meaning.specs.Computed.{definition_in};
+ghost use Rattle.pl_meaning.specs.Database.{empty_table, integer_column, define, next_of};
+ghost use Rattle.pl_meaning.specs.Database.{put, remove, raise};
 ghost use Rattle.pl_base.specs.declared.operation.Op.TheVariants.{Define, Put};
-ghost use Rattle.pl_meaning.specs.Operation.{apply, apply_all};
-ghost use Rattle.pl_meaning.specs.Selection.{rows_in, table_rows};
+ghost use Rattle.pl_meaning.specs.Operation.{apply, apply_all, apply_payload};
+ghost use Rattle.pl_meaning.specs.Selection.{table_rows};
+ghost use Rattle.pl_meaning.specs.Whole.{IsSound};
 ghost use Rattle.pl_value.specs.Frames.{rows_of};
-ghost use Rattle.pl_session.specs.Tables.{table_of, object_of, database_of, catalogue_in};
-ghost use Rattle.pl_session.specs.Tables.{changed, Becomes, AllApply};
+ghost use Rattle.pl_session.specs.Tables.{database_of, catalogue_in, whole_of};
+ghost use Rattle.pl_session.specs.Tables.{changed, Becomes, AllApply, HasText};
 
-use pl_base::{Cells, List, Memory, Name, Op, Txt, Ty, Value};
+use crate::table::Table;
+use pl_base::{Bytes, Cells, List, Memory, Name, Op, Txt, Ty};
 use pl_catalog::{Catalog, Column, Object, TableDef};
+use pl_codec::encode_all;
 use pl_meaning::{IntegerTable, read_definition};
 use pl_value::Lent;
 use std::alloc::{AllocError, Global};
 use std::collections::BTreeMap;
-
-/// The most rows of a table.
-const MOST_ROWS: usize = 1_000_000;
-
-/// A table with one column, of the type integer.
-#[derive(Drop)]
-pub struct Table {
-    name: Name,
-    column: Name,
-    rows: BTreeMap<u64, Cells>,
-    /// The id that the next inserted row gets.
-    next: u64,
-}
-
-impl Table {
-    // Whether the row was put there: it fits the column, and isn't one too many.
-    fn put(&mut self, id: u64, row: Cells) -> Result<bool, Memory>
-        requires { id < 2 ^ 63 }
-        ensures done { IfOk result (λ done. Becomes done (table_of self.old) (table_of self.new)
-            (put_in id row (table_of self.old))) }
-        ensures entry { catalogue.entry_of (object_of self.new)
-            ≡ catalogue.entry_of (object_of self.old) }
-    {
-        if !is_one_integer(row.as_slice()) {
-            return Ok(false);
-        }
-        if !has_room(&self.rows, id) {
-            return Ok(false);
-        }
-        self.rows.insert(id, row)?;
-        self.next = self.next.max(id + 1);
-        Ok(true)
-    }
-
-    // Whether the row of this id was removed: it was there.
-    fn remove(&mut self, id: u64) -> bool
-        ensures done { Becomes result (table_of self.old) (table_of self.new)
-            (remove_in id (table_of self.old)) }
-        ensures entry { catalogue.entry_of (object_of self.new)
-            ≡ catalogue.entry_of (object_of self.old) }
-    {
-        if !self.rows.contains_key(&id) {
-            return false;
-        }
-        self.rows.remove(&id);
-        true
-    }
-
-    // Its rows, by their ids. None is copied.
-    fn rows(&self, alloc: Global) -> Result<Vec<Lent<'_>>, AllocError>
-        ensures { IfOk result (λ rows. rows_of rows.items ≡ rows_in (object_of self.now)) }
-    {
-        let mut rows = Vec::new(alloc);
-        for row in self.rows.values() {
-            rows.push(Lent {
-                cells: row.as_slice(),
-            })?;
-        }
-        Ok(rows)
-    }
-
-    // Whether this is the next id now: it can be.
-    fn raise(&mut self, next: u64) -> bool
-        ensures done { Becomes result (table_of self.old) (table_of self.new)
-            (raise_in next (table_of self.old)) }
-        ensures entry { catalogue.entry_of (object_of self.new)
-            ≡ catalogue.entry_of (object_of self.old) }
-    {
-        if !can_be_next(self.next, next) {
-            return false;
-        }
-        self.next = next;
-        true
-    }
-}
-
-// Whether an id can be the next one behind the present one.
-fn can_be_next(present: u64, next: u64) -> bool
-    ensures { result ≡ (nat_le present next && nat_le next (2 ^ 63)) }
-{
-    present <= next && next <= 1 << 63
-}
-
-// Whether a row of this id is there, or one more can be.
-fn has_room(rows: &BTreeMap<u64, Cells>, id: u64) -> bool
-    ensures { result ≡ (has_row id rows.now.entries
-        || nat_lt (length rows.now.entries) database.MOST_ROWS) }
-{
-    rows.contains_key(&id) || rows.len() < MOST_ROWS
-}
-
-fn is_one_integer(row: &[Value]) -> bool
-    ensures { (column : _) → result ≡ fits (integer_column column) row.now }
-{
-    match row {
-        [Value::Int(_)] => true,
-        _ => false,
-    }
-}
 
 // The place of the table of this name.
 fn place_of(tables: &[Table], name: Name) -> Option<usize>
@@ -132,8 +36,8 @@ fn place_of(tables: &[Table], name: Name) -> Option<usize>
 /// A change of the tables.
 #[derive(Drop)]
 pub enum Change {
-    /// A new table.
-    Create(IntegerTable),
+    /// A new table, by the text of its command.
+    Create { made: IntegerTable, text: Txt },
     /// What the operation does.
     Apply(Op),
 }
@@ -221,22 +125,24 @@ impl Tables {
         self.list[at].raise(next)
     }
 
-    // Whether a table of this name was made.
-    fn define(&mut self, name: Name, column: Name) -> Result<bool, Memory>
+    // Whether the table that the text defines was made.
+    fn define(&mut self, made: IntegerTable, text: Txt) -> Result<bool, Memory>
+        requires { definition_in text ≡ Some made }
         ensures { IfOk result (λ done. Becomes done (database_of self.old.list.items)
-            (database_of self.new.list.items) (define name (integer_column column)
+            (database_of self.new.list.items) (define made.table (integer_column made.column)
             (database_of self.old.list.items))) }
     {
-        let None = place_of(&self.list, name) else {
+        let None = place_of(&self.list, made.table) else {
             return Ok(false);
         };
-        let entry = entry_of(self.alloc, name, column)?;
+        let entry = entry_of(self.alloc, made.table, made.column)?;
         self.list.reserve(1)?;
         match self.catalog.add(entry) {
             Ok(()) => {
                 self.list.push_reserved(Table {
-                    name,
-                    column,
+                    name: made.table,
+                    column: made.column,
+                    text,
                     rows: BTreeMap::new(self.alloc),
                     next: 1,
                 });
@@ -247,15 +153,15 @@ impl Tables {
     }
 
     // Whether the table of a definition was made.
-    fn define_by(&mut self, text: &[u8]) -> Result<bool, Memory>
+    fn define_by(&mut self, text: Txt) -> Result<bool, Memory>
         ensures { IfOk result (λ done. Becomes done (database_of self.old.list.items)
             (database_of self.new.list.items)
-            (apply (Define text.now) (database_of self.old.list.items))) }
+            (apply (Define text) (database_of self.old.list.items))) }
     {
-        let Some(made) = read_definition(self.alloc, text)? else {
+        let Some(made) = read_definition(self.alloc, text.as_bytes())? else {
             return Ok(false);
         };
-        self.define(made.table, made.column)
+        self.define(made, text)
     }
 
     // Whether a row was put, under an id that is one.
@@ -276,7 +182,7 @@ impl Tables {
             (database_of self.new.list.items) (apply op (database_of self.old.list.items))) }
     {
         match op {
-            Op::Define { text } => self.define_by(text.as_bytes()),
+            Op::Define { text } => self.define_by(text),
             Op::Put { table, id, row } => self.put_by(table, id, row),
             Op::Remove { table, id } => Ok(self.remove(table, id)),
             Op::Next { table, next } => Ok(self.raise(table, next)),
@@ -299,11 +205,12 @@ impl Tables {
 
     /// Makes a change, if it can be made, and says whether it was.
     pub fn change(&mut self, change: Change) -> Result<bool, Memory>
+        requires { HasText change }
         ensures { IfOk result (λ done. Becomes done (database_of self.old.list.items)
             (database_of self.new.list.items) (changed change (database_of self.old.list.items))) }
     {
         match change {
-            Change::Create(made) => self.define(made.table, made.column),
+            Change::Create { made, text } => self.define(made, text),
             Change::Apply(op) => self.apply(op),
         }
     }
@@ -320,6 +227,16 @@ impl Tables {
         self.list[at].rows(alloc)
     }
 
+    /// The payload of operations that lead from no table to these.
+    pub fn payload(&self) -> Result<Bytes, Memory>
+        requires { IsSound (database_of self.now.list.items) }
+        ensures { IfOk result (λ payload.
+            apply_payload payload [] ≡ Some (database_of self.now.list.items)) }
+    {
+        let ops = whole(self.alloc, &self.list)?;
+        Ok(encode_all(self.alloc, ops.as_slice())?)
+    }
+
     /// The next row id of the table of this name.
     pub fn next_of(&self, name: Name) -> Option<u64>
         ensures { result ≡ next_of name (database_of self.now.list.items) }
@@ -329,6 +246,17 @@ impl Tables {
         };
         Some(self.list[at].next)
     }
+}
+
+// The operations that lead from no table to these.
+fn whole(alloc: Global, tables: &[Table]) -> Result<Vec<Op>, Memory>
+    ensures { IfOk result (λ ops. ops.items ≡ whole_of tables.now) }
+{
+    let mut ops = Vec::new(alloc);
+    for table in tables {
+        table.push_ops(alloc, &mut ops)?;
+    }
+    Ok(ops)
 }
 
 impl pl_query::Tables for Tables {

@@ -2,20 +2,19 @@ use Rattle.std.proofs.Common.{◌≡◌, ◌⊎◌, ◌∙◌, ◌∷◌, ◌++�
 use Rattle.pl_meaning.specs.Database.{Database}
 use Rattle.pl_meaning.specs.Opening.{opens}
 use Rattle.pl_meaning.specs.Trace.{Event, Said}
-use Rattle.pl_keeper.specs.Batches.{Damage, spare_area}
+use Rattle.pl_keeper.specs.Batches.{Damage, batches, spare_area}
 use Rattle.pl_session.specs.Spare.{KeepsArea}
 use Rattle.pl_session.specs.Starts.{HasStartCause}
 use Rattle.pl_session.specs.declared.halt.StartFail.{StartFail}
-use Rattle.pl_base.specs.declared.area.Area.{Area}
 use Rattle.pl_session.specs.Endings.{Done}
 use Rattle.pl_session.specs.Lent.{area_on}
 use Rattle.pl_session.specs.State.{database_in}
 use Rattle.pl_cli.specs.Covers.{CoveredRun}
 use Rattle.pl_cli.specs.Line.{Asked, asked}
 use Rattle.pl_cli.specs.Lines.{asked_in}
-use Rattle.pl_cli.specs.Parts.{SaysLast}
+use Rattle.pl_cli.specs.Parts.{SaysLast, ScriptEnd}
 use Rattle.pl_cli.specs.Printed.{damage_line, refusal_line}
-use Rattle.pl_cli.specs.declared.ending.Ending.TheVariants.{Whole, AtError, Memory, Refused}
+use Rattle.pl_cli.specs.declared.ending.Ending.TheVariants.{Whole, AtError, Memory, Refused, Source}
 use Rattle.pl_cli.specs.declared.ending.Ending.{Ending}
 use Rattle.pl_disk.specs.Disk.{Runs}
 use Rattle.pl_meaning.specs.Covered.{AlongFrom}
@@ -24,7 +23,7 @@ use Rattle.pl_base.specs.Image.{Image}
 use Rattle.pl_cli.specs.Runs.{AttachesScript, HasCause, IsEarly, OnlySays, Over}
 use Rattle.pl_cli.specs.Script.{IsRefusedAt, script_text}
 use Rattle.pl_cli.proofs.Covering.{done_since, idle_covers, not_begun, only_started, same_database, start_covers, then_covers}
-use Rattle.pl_cli.proofs.Runs.{area_said, cause_of, done_by, ended_not_memory, ended_not_say, none_printed, not_disk, not_memory, not_read, not_usage, one_asked, prints_since, prints_whole, refused_due, same_damage, says_along, says_done, says_nothing, tells_at, tells_cause, tells_early, tells_only, tells_place, trace_of}
+use Rattle.pl_cli.proofs.Runs.{area_said, cause_of, done_by, ended_not_memory, ended_not_say, first_since, none_printed, not_disk, not_memory, not_read, not_run, not_usage, one_asked, prints_since, prints_whole, refused_due, same_damage, says_along, says_done, says_nothing, tells_at, tells_cause, tells_early, tells_only, tells_place, trace_of, was_run}
 use Rattle.pl_cli.proofs.Traces.{none_yet}
 use Rattle.pl_cli.proofs.program.run.Goals as goal
 
@@ -115,7 +114,7 @@ returns-in-Err-Damaged-clause-script g c =
     (inr (subst (λ (e : Ending). IsEarly e) (sym c.of-in-Err-Damaged.ensures.ending) early, λ names is. is))
 
 pub returns-in-Err-Damaged-clause-spare : goal.returns-in-Err-Damaged-clause-spare
-returns-in-Err-Damaged-clause-spare g c told =
+returns-in-Err-Damaged-clause-spare g c is told =
     let a = g.H.Disk.view c.args.host.now in
     let now = c.start.ensures.moments.continues.told told in
     let first = c.start.ensures.spare told in
@@ -163,10 +162,10 @@ returns-in-Err-Refused-clause-covered g c db events over =
     (subst (λ (k : ℕ). SaysLast (refusal_line k) Refused b d c.say_refusal.result ⊎ ((c.say_refusal.result ≡ Memory) × (c.say_refusal.new.host ≡ c.start.new.host))) c.in-Err-Refused.at-is c.say_refusal.ensures)
 
 pub returns-in-Err-Usage-clause-spare : goal.returns-in-Err-Usage-clause-spare
-returns-in-Err-Usage-clause-spare g c told = area_said _ _ _ _ _ _ told c.refuse_words.ensures.says
+returns-in-Err-Usage-clause-spare g c is told = area_said _ _ _ _ _ _ told c.refuse_words.ensures.says
 
 pub returns-in-Err-Refused-clause-spare : goal.returns-in-Err-Refused-clause-spare
-returns-in-Err-Refused-clause-spare g c told =
+returns-in-Err-Refused-clause-spare g c is told =
     let a = g.H.Disk.view c.args.host.now in
     let now = c.start.ensures.moments.continues.told told in
     let first = c.start.ensures.spare told in
@@ -175,13 +174,33 @@ returns-in-Err-Refused-clause-spare g c told =
     c.say_refusal.ensures
 
 pub returns-clause-spare : goal.returns-clause-spare
-returns-clause-spare g c told =
+returns-clause-spare g c is told =
+    absurd (was_run c.run_commands.result _ _ _ _ _ c.run_commands.ensures.ended (subst (λ (e : Ending). (e ≡ Source) ⊎ (e ≡ Refused)) c.of-2.ensures.ending is))
+
+pub returns-in-Err-Damaged-clause-short : goal.returns-in-Err-Damaged-clause-short
+returns-in-Err-Damaged-clause-short g c ended told i left =
+    let line = damage_line c.in-Err-Damaged.area c.in-Err-Damaged.at in
+    let tells = tells_at g.H.Disk.view _ c.in-Err-Damaged.area _ c.in-Err-Damaged.at c.start.new.host c.say_damage.new.host c.say_damage.result c.in-Err-Damaged.area-is c.in-Err-Damaged.at-is c.say_damage.ensures in
+    absurd (not_read _ (tells_early g.H.Disk.view line (g.H.Disk.view c.args.host.now) c.start.new.host c.say_damage.new.host c.say_damage.result tells)
+    (subst (λ (e : Ending). (e ≡ Whole) ⊎ (e ≡ AtError)) c.of-in-Err-Damaged.ensures.ending ended))
+
+pub returns-in-Err-Refused-clause-short : goal.returns-in-Err-Refused-clause-short
+returns-in-Err-Refused-clause-short g c ended told i left =
+    let is = subst (λ (e : Ending). (e ≡ Whole) ⊎ (e ≡ AtError)) c.of-in-Err-Refused.ensures.ending ended in
+    absurd (⊎_elim (λ says. ⊎_elim (λ refused. not_run _ is (inl refused)) (λ say. not_run _ is (inr (inl say.0))) says.known) (λ none. not_run _ is (inr (inr none.0))) c.say_refusal.ensures)
+
+pub returns-clause-short : goal.returns-clause-short
+returns-clause-short g c ended told i left =
     let a = g.H.Disk.view c.args.host.now in
     let b = g.H.Disk.view c.start.new.host in
-    let d = g.H.Disk.view c.run_commands.new.host in
     let now = c.start.ensures.moments.continues.told told in
-    let later = subst (λ (area : Area). KeepsArea area b d) (c.in-Ok-start.ensures.started.spare told) (c.run_commands.ensures.spare now) in
-    area_on (spare_area a.seen) _ _ _ (g.met.H.Disk.lawful c.args.host.now told) (g.met.H.Disk.lawful c.start.new.host now) (c.start.ensures.spare told) later
+    let started = c.in-Ok-start.ensures.started in
+    let is = subst (λ (e : Ending). (e ≡ Whole) ⊎ (e ≡ AtError)) c.of-2.ensures.ending ended in
+    ⊎_elim (λ short. inl short)
+    (λ same.
+    let was : b.may_leave i = subst (λ h. (g.H.Disk.view h).may_leave i) same left in
+    inr (ap batches ((started.ready.store now).store.settled i was) ∙ started.same told))
+    (c.run_commands.ensures.short is now i left)
 
 pub returns-in-Err-Refused-clause-done : goal.returns-in-Err-Refused-clause-done
 returns-in-Err-Refused-clause-done g c ended db events over =
@@ -285,3 +304,27 @@ returns-clause-disk g c is db events over =
     prints_since a b d text (script_text over.script) line.stops_on_error over.line.stops_on_error found db is_text (ap (λ (l : Asked). l.stops_on_error) one) same
     c.start.ensures.printed (λ told. c.start.ensures.moments.continues.told told)
     (prints_whole c.run_commands.result b d text line.stops_on_error found c.run_commands.ensures.ended (sym c.of-2.ensures.ending ∙ is))
+
+pub returns-in-Err-Fault-clause-source : goal.returns-in-Err-Fault-clause-source
+returns-in-Err-Fault-clause-source g c is db told opened =
+    only_started _ _ _ db c.in-Ok-start.ensures.started told (c.start.ensures.moments.continues.told told) opened (c.start.ensures.printed told)
+
+pub returns-clause-memory : goal.returns-clause-memory
+returns-clause-memory g c is db events over =
+    let a = g.H.Disk.view c.args.host.now in
+    let b = g.H.Disk.view c.start.new.host in
+    let d = g.H.Disk.view c.run_commands.new.host in
+    let line = asked_in c.in-Ok.line in
+    let text = c.without_mark-text.result.now in
+    let found = database_in c.in-Ok-start.state in
+    let started = c.in-Ok-start.ensures.started in
+    let same : found ≡ db = same_database (opens a.seen) found db (started.opened over.told) over.opened in
+    let read = c.in-Ok-read_script.ensures.read over.script over.reads in
+    let is_text : text ≡ script_text over.script = c.without_mark-text.ensures ∙ ap script_text (c.deref.ensures ∙ read.0) in
+    let one : line ≡ over.line = one_asked (asked (map string_bytes c.args.words.now)) line over.line c.in-Ok.ensures.line over.asks in
+    let ends = subst (λ (e : Ending). ScriptEnd e b d text line.stops_on_error found) (sym c.of-2.ensures.ending ∙ is) c.run_commands.ensures.ended in
+    inr (
+      ends.0,
+      first_since text (script_text over.script) line.stops_on_error over.line.stops_on_error found db ends.0 is_text (ap (λ (l : Asked). l.stops_on_error) one) same ends.1,
+      done_since a b d ends.0 found db same (c.start.ensures.printed over.told) (ends.2 (c.start.ensures.moments.continues.told over.told)),
+    )

@@ -1,9 +1,10 @@
-use Rattle.std.proofs.Common.{◌≡◌, ◌∙◌, Bool, true, false, Result, Ok, refl, sym, ap}
+use Rattle.std.proofs.Common.{⊎_elim, ◌≡◌, ◌∙◌, Bool, true, false, Result, Ok, refl, sym, ap}
 use Rattle.pl_meaning.specs.Database.{Database}
 use Rattle.pl_keeper.specs.Batches.{Damage}
 use Rattle.pl_session.specs.Endings.{ended_of}
 use Rattle.pl_session.specs.State.{database_in}
 use Rattle.pl_session.specs.declared.halt.Ended.TheVariants.{Whole, AtError}
+use Rattle.pl_cli.proofs.Runs.{short_image}
 use Rattle.pl_cli.proofs.Traces.{some_trace}
 use Rattle.pl_cli.proofs.program.run_commands.Goals as goal
 
@@ -52,3 +53,22 @@ returns-in-Err-Stopped-Say-clause-continues g c = let t = some_trace c.args.scri
 
 pub returns-in-Err-Stopped-Memory-clause-continues : goal.returns-in-Err-Stopped-Memory-clause-continues
 returns-in-Err-Stopped-Memory-clause-continues g c = let t = some_trace c.args.script.now c.args.stops (database_in c.args.state.now) in (c.run_script.ensures.moments t.0 t.1).continues
+
+pub returns-in-Ok-Whole-clause-short : goal.returns-in-Ok-Whole-clause-short
+returns-in-Ok-Whole-clause-short g c is told i left =
+    let t = some_trace c.args.script.now c.args.stops (database_in c.args.state.now) in
+    short_image (g.H.Disk.view c.run_script.new.host) c.run_script.new.self c.args.host.now c.run_script.new.host c.in-Ok-Whole.ensures.ready_again ((c.run_script.ensures.moments t.0 t.1).continues.told told) c.in-Ok-Whole.ensures.short i left
+
+pub returns-in-Ok-AtError-clause-short : goal.returns-in-Ok-AtError-clause-short
+returns-in-Ok-AtError-clause-short g c is told i left =
+    let t = some_trace c.args.script.now c.args.stops (database_in c.args.state.now) in
+    short_image (g.H.Disk.view c.run_script.new.host) c.run_script.new.self c.args.host.now c.run_script.new.host c.in-Ok-AtError.ensures.ready_again ((c.run_script.ensures.moments t.0 t.1).continues.told told) c.in-Ok-AtError.ensures.short i left
+
+pub returns-in-Err-Stopped-Disk-clause-short : goal.returns-in-Err-Stopped-Disk-clause-short
+returns-in-Err-Stopped-Disk-clause-short g c is told i left = absurd (⊎_elim (λ h. cc) (λ h. cc) is)
+
+pub returns-in-Err-Stopped-Say-clause-short : goal.returns-in-Err-Stopped-Say-clause-short
+returns-in-Err-Stopped-Say-clause-short g c is told i left = absurd (⊎_elim (λ h. cc) (λ h. cc) is)
+
+pub returns-in-Err-Stopped-Memory-clause-short : goal.returns-in-Err-Stopped-Memory-clause-short
+returns-in-Err-Stopped-Memory-clause-short g c is told i left = absurd (⊎_elim (λ h. cc) (λ h. cc) is)

@@ -1,8 +1,10 @@
-use Rattle.std.proofs.Common.{ℕ, ◌++◌, ◌∷◌, [], Option, subst}
-use Rattle.pl_disk.specs.Lent.{looks_on}
+use Rattle.std.proofs.Common.{ℕ, ◌++◌, ◌∷◌, [], Option, Result, Ok, ap, subst, sym}
+use Rattle.pl_disk.specs.Lent.{looks_on, no_look}
 use Rattle.pl_keeper.specs.Reading.{IsStep, ReadsOn}
 use Rattle.pl_keeper.specs.Store.{stored}
 use Rattle.pl_keeper.specs.declared.reader.Step.{Step}
+use Rattle.pl_meaning.specs.Database.{Database}
+use Rattle.pl_meaning.specs.Whole.{IsSound}
 use Rattle.pl_session.specs.Steps.{LeadsTo}
 use Rattle.pl_session.proofs.Folding.{read_failed, stopped_at}
 use Rattle.pl_session.proofs.opening.fold.Goals as goal
@@ -10,6 +12,14 @@ use Rattle.pl_session.proofs.opening.fold.Goals as goal
 pub returns-in_err-step-clause-cause : goal.returns-in_err-step-clause-cause
 returns-in_err-step-clause-cause g c =
     read_failed (g.H.Disk.view c.args.host.now) (g.H.Disk.view c.batches.host) (g.H.Disk.view c.next.new.disk) c.batches.invariant.looks c.next.ensures.looks c.in_err-step.field-0.0 c.from_residual.result c.from_residual.ensures.1 c.in_err-step.ensures.cause
+
+pub batches-init : goal.batches-init
+batches-init g c = record {
+  place = c.requires.place;
+  looks = no_look (g.H.Disk.view c.args.host.now);
+  folded = λ told. record { list = []; reading = c.requires.reading told; leads = ap (λ (d : Database). let r : Result Database ℕ = Ok d in r) (sym c.new-tables.ensures) };
+  sound = λ none. subst (λ (d : Database). IsSound d) (sym c.new-tables.ensures) tt;
+}
 
 pub batches-preserved : goal.batches-preserved
 batches-preserved g c =
@@ -23,8 +33,12 @@ batches-preserved g c =
           let before = c.next.ensures.looks.continues.told_before told in
           let folded = was.folded before in
           let step = subst (λ (s : Step). IsStep d reader folded.list s) c.in-Read.is (c.in_ok-step.ensures.step before folded.list folded.reading) in
-          record { list = folded.list ++ stored c.in-Read.batch ∷ []; reading = step.1; leads = c.in_ok-stopped-in-Read.ensures folded.list folded.leads };
+          record { list = folded.list ++ stored c.in-Read.batch ∷ []; reading = step.1; leads = c.in_ok-stopped-in-Read.ensures.leads folded.list folded.leads };
+      sound = c.in_ok-stopped-in-Read.ensures.sound was.sound;
     }
+
+pub returns-in_default-clause-sound : goal.returns-in_default-clause-sound
+returns-in_default-clause-sound g c = c.batches.invariant.sound c.in_default.is
 
 pub returns-in_default-clause-folded : goal.returns-in_default-clause-folded
 returns-in_default-clause-folded g c told =

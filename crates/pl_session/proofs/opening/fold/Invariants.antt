@@ -1,5 +1,6 @@
 use Rattle.std.proofs.Common.{◌<◌, ◌-◌, ◌^◌}
 use Rattle.pl_disk.specs.Disk.{Looks}
+use Rattle.pl_session.specs.Steps.{SoundUnless}
 use Rattle.pl_session.proofs.Folding.{Folded}
 use Rattle.pl_session.proofs.opening.fold.Given as goal
 
@@ -9,6 +10,7 @@ invariant-batches g l = record {
   place : l.reader.end < 2 ^ 63;
   looks : Looks (g.H.Disk.view l.fn.host) (g.H.Disk.view l.host);
   folded : (g.H.Disk.view l.host).told → Folded (g.H.Disk.view l.host) l.reader l.tables.list.items l.stopped;
+  sound : SoundUnless l.stopped l.tables.list.items;
 }
 
 abbrev pub decreases-batches : goal.decreases-batches

@@ -14,4 +14,4 @@ pub returns : goal.returns
 returns c =
     let db = database_of c.args.tables.now.list.items in
     let made : table_by c.args.definition c.args.source ≡ Some c.in-Some.made = search rules in
-    (creates_table (table_by c.args.definition c.args.source) c.in-Some.made db made, spells_table c.in_ok-payload.payload c.args.source c.in-Some.made db (c.requires.alike ∙ made) c.in_ok-payload.ensures.read_back)
+    (creates_table (table_by c.args.definition c.args.source) c.in-Some.made c.in_ok-text.text db made, spells_table c.in_ok-payload.payload c.args.source c.in_ok-text.text c.in-Some.made db c.in_ok-text.ensures (c.requires.alike ∙ made) c.in_ok-payload.ensures.read_back)

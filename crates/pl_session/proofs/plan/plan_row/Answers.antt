@@ -11,5 +11,5 @@ pub returns : goal.returns
 returns c =
     let db = database_of c.args.tables.now.list.items in (
       inserts_row c.args.table c.in-Some.id c.args.number _ _ db (sym c.in-Some.ensures) (first_of (grind (arith, nat_tests), search rules)) (search rules),
-      spells_one c.in_ok-payload.payload _ _ db c.in_ok-payload.ensures.read_back refl,
+      spells_one c.in_ok-payload.payload _ _ db tt c.in_ok-payload.ensures.read_back refl,
     )

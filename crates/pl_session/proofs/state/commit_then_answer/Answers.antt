@@ -1,10 +1,7 @@
 use Rattle.std.proofs.Common.{◌≡◌, ◌∙◌, List, ℕ, subst}
-use Rattle.pl_base.specs.Image.{other}
-use Rattle.pl_codec.specs.Reading.{operations_of}
 use Rattle.pl_disk.specs.Disk.{Says}
 use Rattle.pl_print.specs.Tags.{tag_bytes}
-use Rattle.pl_session.specs.Lent.{area_on, area_said, area_wrote}
-use Rattle.pl_session.proofs.Opens.{some_of, stores_on, stores_still, stores_open}
+use Rattle.pl_session.proofs.Opens.{stores_on, stores_still, stores_open}
 use Rattle.pl_session.proofs.Says.{commit_along, said_after}
 use Rattle.pl_session.proofs.state.commit_then_answer.Goals as goal
 
@@ -36,29 +33,3 @@ returns-clause-moments g c db next store done =
     said_after a b c.args.keeper.now c.args.payload.now (tag_bytes c.args.reply) db next store done c.commit_payload.ensures.writes.moments _ c.say.result c.commit_payload.ensures.writes.printed
     (λ told. stores_open b c.commit_payload.new.self next (stores_on a b c.args.keeper.now c.commit_payload.new.self c.args.payload.now db next (c.in-Ok.ensures.committed told) (store told) done))
     (subst (λ (l : List ℕ). Says l b (g.H.Disk.view c.say.new.self) c.say.result) line c.say.ensures)
-
-pub returns-in-Err-Fault-clause-spare : goal.returns-in-Err-Fault-clause-spare
-returns-in-Err-Fault-clause-spare g c told =
-    let ops = some_of (operations_of c.args.payload.now) c.requires.spelling in
-    area_wrote (other c.args.keeper.now.area) _ _ _ told c.commit_payload.ensures.writes (λ i is. (is ops.0 ops.1).rest) (c.commit_payload.ensures.rest told)
-
-pub returns-in-Err-Memory-clause-spare : goal.returns-in-Err-Memory-clause-spare
-returns-in-Err-Memory-clause-spare g c told =
-    let ops = some_of (operations_of c.args.payload.now) c.requires.spelling in
-    area_wrote (other c.args.keeper.now.area) _ _ _ told c.commit_payload.ensures.writes (λ i is. (is ops.0 ops.1).rest) (c.commit_payload.ensures.rest told)
-
-pub returns-in-Ok-say-clause-spare : goal.returns-in-Ok-say-clause-spare
-returns-in-Ok-say-clause-spare g c told =
-    let ops = some_of (operations_of c.args.payload.now) c.requires.spelling in
-    let now = c.commit_payload.ensures.writes.moments.continues.told told in
-    area_on (other c.args.keeper.now.area) _ _ _ (g.met.H.Disk.lawful c.args.host.now told) (g.met.H.Disk.lawful c.commit_payload.new.disk now)
-    (area_wrote (other c.args.keeper.now.area) _ _ _ told c.commit_payload.ensures.writes (λ i is. (is ops.0 ops.1).rest) (c.commit_payload.ensures.rest told))
-    (area_said (other c.args.keeper.now.area) _ _ _ _ now c.say.ensures)
-
-pub returns-clause-spare : goal.returns-clause-spare
-returns-clause-spare g c told =
-    let ops = some_of (operations_of c.args.payload.now) c.requires.spelling in
-    let now = c.commit_payload.ensures.writes.moments.continues.told told in
-    area_on (other c.args.keeper.now.area) _ _ _ (g.met.H.Disk.lawful c.args.host.now told) (g.met.H.Disk.lawful c.commit_payload.new.disk now)
-    (area_wrote (other c.args.keeper.now.area) _ _ _ told c.commit_payload.ensures.writes (λ i is. (is ops.0 ops.1).rest) (c.commit_payload.ensures.rest told))
-    (area_said (other c.args.keeper.now.area) _ _ _ _ now c.say.ensures)

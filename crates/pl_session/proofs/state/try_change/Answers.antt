@@ -3,10 +3,10 @@ use Rattle.pl_meaning.specs.Replies.{error_line}
 use Rattle.pl_meaning.specs.Trace.{Event}
 use Rattle.pl_print.specs.Tags.{tag_bytes}
 use Rattle.pl_session.specs.Endings.{RunsAlong}
-use Rattle.pl_session.specs.Spare.{spare_in}
 use Rattle.pl_session.specs.State.{database_in}
 use Rattle.pl_session.specs.Tables.{changed, database_of}
 use Rattle.pl_session.proofs.Ends.{fails_done, commits_done, refuses, makes}
+use Rattle.pl_session.proofs.Opens.{payload_keeps}
 use Rattle.pl_session.proofs.state.try_change.Goals as goal
 
 pub returns-in_err-answer-clause-moments : goal.returns-in_err-answer-clause-moments
@@ -39,13 +39,7 @@ returns-clause-ended g c =
     let done = sym c.requires.spelled.same ∙ same.1 in
     let run = c.commit_then_answer.ensures.moments db next c.requires.ready.store done in
     commits_done _ _ c.args.state.now _ (tag_bytes c.args.reply) c.requires.ready run.continues c.in_ok-commit_then_answer.ensures.printed refl _ next same.0
-    (λ told. c.in_ok-commit_then_answer.ensures.store told db next (c.requires.ready.store told) done) refl
-
-pub returns-in_err-answer-clause-spare : goal.returns-in_err-answer-clause-spare
-returns-in_err-answer-clause-spare g c told = c.answer.ensures.files told (spare_in c.args.state.now)
-
-pub returns-then-not-branch-clause-spare : goal.returns-then-not-branch-clause-spare
-returns-then-not-branch-clause-spare g c told = c.answer.ensures.files told (spare_in c.args.state.now)
+    (λ told. c.in_ok-commit_then_answer.ensures.store told db next (c.requires.ready.store told) done) (payload_keeps c.args.payload.now db next done c.requires.ready.sound) refl
 
 pub returns-in_err-commit_then_answer-clause-moments : goal.returns-in_err-commit_then_answer-clause-moments
 returns-in_err-commit_then_answer-clause-moments g c =
@@ -62,3 +56,6 @@ returns-clause-moments g c =
     let same = makes (tag_bytes c.args.reply) (error_line c.args.error) c.in_ok-change.field-0 db next (changed c.args.change db) c.if-not-branch.false c.in_ok-change.ensures in
     let done = sym c.requires.spelled.same ∙ same.1 in
     subst (λ (e : List Event). RunsAlong (g.H.Disk.view c.args.host.now) (g.H.Disk.view c.commit_then_answer.new.host) e db) same.0 (c.commit_then_answer.ensures.moments db next c.requires.ready.store done)
+
+pub change-requires : goal.change-requires
+change-requires g c = c.requires.spelled.text

@@ -1,29 +1,24 @@
-use Rattle.std.proofs.Common.{◌≡◌, ◌<◌, ◌≤◌, ◌&&◌, [], List, length, Option, Bool, true, false, refl, sym, ◌∙◌, ap, subst, arith}
+use Rattle.std.proofs.Common.{inl, inr, ◌≡◌, ◌<◌, ◌≤◌, ◌&&◌, [], List, length, Option, Bool, true, false, refl, sym, ◌∙◌, ap, subst, arith}
 use Rattle.std.specs.Prelude.{IfSome}
-use Rattle.pl_base.specs.declared.area.Area.{Area}
-use Rattle.pl_disk.specs.Lent.{no_call}
 use Rattle.pl_meaning.specs.Meaning.{events}
 use Rattle.pl_meaning.specs.Trace.{Event, is_failed}
 use Rattle.pl_meaning.proofs.Lent.{of_trace}
 use Rattle.pl_session.specs.Endings.{RunsAlong, GoesOn, StopsBy, ended_of}
-use Rattle.pl_session.specs.Lent.{area_on, area_still}
 use Rattle.pl_session.specs.Scripts.{IsNextReading}
-use Rattle.pl_session.specs.Spare.{KeepsArea, spare_in}
 use Rattle.pl_session.specs.State.{database_in}
 use Rattle.pl_session.specs.declared.halt.Ended.{Ended}
 use Rattle.pl_session.specs.declared.halt.Stop.{Stop}
 use Rattle.pl_session.specs.declared.halt.Stop.TheVariants.{Memory}
 use Rattle.pl_session.specs.declared.script.Next.{Next}
 use Rattle.pl_session.proofs.Ends.{idle, if_err}
-use Rattle.pl_session.proofs.Progress.{no_piece, moments_so_far, done_whole, no_error, one_piece, stopped, stops_by, done_at_error, at_error}
+use Rattle.pl_session.proofs.Progress.{no_piece, moments_so_far, done_whole, no_error, one_piece, so_many, stopped, stops_by, done_at_error, at_error}
 use Rattle.pl_session.proofs.state.SessionState.run_pieces.Goals as goal
 
 pub pieces-init : goal.pieces-init
 pieces-init g c = record {
   within = omega arith;
   ready = c.requires.ready;
-  area = refl;
-  spare = λ told. area_still (spare_in c.args.self.now) (g.H.Disk.view c.args.host.now);
+  short = inr refl;
   progress = no_piece (g.H.Disk.view c.args.host.now) c.args.stops c.args.script.now (database_in c.args.self.now);
 }
 
@@ -40,7 +35,7 @@ returns-in_err-next-clause-cause g c =
     let b = g.H.Disk.view c.pieces.host in
     let db = database_in c.args.self.now in
     if_err (λ (why : Stop). StopsBy a b c.args.script.now c.args.stops db why) c.from_residual.result Memory c.from_residual.ensures.1
-    (stops_by a b b c.args.stops c.args.script.now _ db _ c.pieces.invariant.progress c.pieces.self Memory c.pieces.invariant.ready refl (no_call b) (idle b Memory refl))
+    (so_many a b c.args.stops c.args.script.now _ db _ c.pieces.invariant.progress b c.pieces.self c.pieces.invariant.ready refl (λ told. c.pieces.invariant.progress.moments.continues.told told) (idle b Memory refl))
 
 pub returns-in_default-clause-moments : goal.returns-in_default-clause-moments
 returns-in_default-clause-moments g c =
@@ -68,41 +63,42 @@ returns-in_default-clause-ended g c =
 pub returns-in_err-failed-clause-moments : goal.returns-in_err-failed-clause-moments
 returns-in_err-failed-clause-moments g c =
     let a = g.H.Disk.view c.args.host.now in
-    let d = g.H.Disk.view c.run_reading.new.host in
+    let d = g.H.Disk.view c.run_piece.new.host in
     let was = c.pieces.invariant.progress in
     let db = database_in c.args.self.now in
     let next = subst (λ (o : Option Next). IsNextReading c.args.script.now was.rest o) c.in-Some.is (c.in_ok-next.ensures.next was.rest was.left) in
-    of_trace c.args.script.now c.args.stops db (λ (es : List Event). RunsAlong a d es db) (stopped _ _ _ _ _ _ _ was _ c.in-Some.next.reading next.0 next.1 c.run_reading.ensures.moments)
+    of_trace c.args.script.now c.args.stops db (λ (es : List Event). RunsAlong a d es db) (stopped _ _ _ _ _ _ _ was _ c.in-Some.next.reading next.0 next.1 c.run_piece.ensures.moments)
 
 pub returns-in_err-failed-clause-cause : goal.returns-in_err-failed-clause-cause
 returns-in_err-failed-clause-cause g c =
     let a = g.H.Disk.view c.args.host.now in
-    let b = g.H.Disk.view c.pieces.host in
-    let d = g.H.Disk.view c.run_reading.new.host in
+    let d = g.H.Disk.view c.run_piece.new.host in
+    let was = c.pieces.invariant.progress in
     let db = database_in c.args.self.now in
+    let next = subst (λ (o : Option Next). IsNextReading c.args.script.now was.rest o) c.in-Some.is (c.in_ok-next.ensures.next was.rest was.left) in
     if_err (λ (why : Stop). StopsBy a d c.args.script.now c.args.stops db why) c.from_residual-in_err-failed.result c.in_err-failed.field-0.0 c.from_residual-in_err-failed.ensures.1
-    (stops_by a b d c.args.stops c.args.script.now _ db _ c.pieces.invariant.progress c.pieces.self c.in_err-failed.field-0.0 c.pieces.invariant.ready refl c.run_reading.ensures.moments.continues c.in_err-failed.ensures.ended)
+    (stops_by _ _ _ _ _ _ _ _ was c.in-Some.next.reading next.0 next.1 c.run_piece.ensures.moments c.pieces.self c.in_err-failed.field-0.0 c.pieces.invariant.ready refl c.in_err-failed.ensures.ended)
 
 pub returns-then-ends_at-clause-moments : goal.returns-then-ends_at-clause-moments
 returns-then-ends_at-clause-moments g c =
     let a = g.H.Disk.view c.args.host.now in
-    let d = g.H.Disk.view c.run_reading.new.host in
+    let d = g.H.Disk.view c.run_piece.new.host in
     let was = c.pieces.invariant.progress in
     let db = database_in c.args.self.now in
     let next = subst (λ (o : Option Next). IsNextReading c.args.script.now was.rest o) c.in-Some.is (c.in_ok-next.ensures.next was.rest was.left) in
-    of_trace c.args.script.now c.args.stops db (λ (es : List Event). RunsAlong a d es db) (stopped _ _ _ _ _ _ _ was _ c.in-Some.next.reading next.0 next.1 c.run_reading.ensures.moments)
+    of_trace c.args.script.now c.args.stops db (λ (es : List Event). RunsAlong a d es db) (stopped _ _ _ _ _ _ _ was _ c.in-Some.next.reading next.0 next.1 c.run_piece.ensures.moments)
 
 pub returns-then-ends_at-clause-done : goal.returns-then-ends_at-clause-done
 returns-then-ends_at-clause-done g c =
     let a = g.H.Disk.view c.args.host.now in
-    let d = g.H.Disk.view c.run_reading.new.host in
+    let d = g.H.Disk.view c.run_piece.new.host in
     let was = c.pieces.invariant.progress in
     let db = database_in c.args.self.now in
     let next = subst (λ (o : Option Next). IsNextReading c.args.script.now was.rest o) c.in-Some.is (c.in_ok-next.ensures.next was.rest was.left) in
     let error : (c.args.stops && is_failed (events c.in-Some.next.reading (database_in c.pieces.self))) ≡ true = ap (λ (b : Bool). c.args.stops && b) (sym c.in_ok-failed.ensures.ended.1) ∙ sym c.ends_at.ensures ∙ c.if-ends_at.true in
     let done = c.in_ok-failed.ensures.ended.0 in
-    of_trace c.args.script.now c.args.stops db (λ (es : List Event). GoesOn a d c.args.self.now c.run_reading.new.self es)
-    (done_at_error _ _ _ _ _ _ _ was _ c.in-Some.next.reading next.0 next.1 c.run_reading.ensures.moments error c.args.self.now c.run_reading.new.self refl done.database done.ready (λ t. done.printed (was.moments.continues.told t)))
+    of_trace c.args.script.now c.args.stops db (λ (es : List Event). GoesOn a d c.args.self.now c.run_piece.new.self es)
+    (done_at_error _ _ _ _ _ _ _ was _ c.in-Some.next.reading next.0 next.1 c.run_piece.ensures.moments error c.args.self.now c.run_piece.new.self refl done.database done.ready (λ t. done.printed (was.moments.continues.told t)))
 
 pub returns-then-ends_at-clause-ended : goal.returns-then-ends_at-clause-ended
 returns-then-ends_at-clause-ended g c =
@@ -111,7 +107,7 @@ returns-then-ends_at-clause-ended g c =
     let next = subst (λ (o : Option Next). IsNextReading c.args.script.now was.rest o) c.in-Some.is (c.in_ok-next.ensures.next was.rest was.left) in
     let error : (c.args.stops && is_failed (events c.in-Some.next.reading (database_in c.pieces.self))) ≡ true = ap (λ (b : Bool). c.args.stops && b) (sym c.in_ok-failed.ensures.ended.1) ∙ sym c.ends_at.ensures ∙ c.if-ends_at.true in
     of_trace c.args.script.now c.args.stops db (λ (es : List Event). Ended.AtError ≡ ended_of (c.args.stops && is_failed es))
-    (ap (λ (b : Bool). ended_of b) (sym (at_error _ _ _ _ _ _ _ was _ c.in-Some.next.reading next.0 next.1 c.run_reading.ensures.moments error)))
+    (ap (λ (b : Bool). ended_of b) (sym (at_error _ _ _ _ _ _ _ was _ c.in-Some.next.reading next.0 next.1 c.run_piece.ensures.moments error)))
 
 pub pieces-preserved : goal.pieces-preserved
 pieces-preserved g c =
@@ -123,28 +119,12 @@ pieces-preserved g c =
     record {
       within = on.1;
       ready = done.ready;
-      area = c.run_reading.ensures.area ∙ c.pieces.invariant.area;
-      spare = λ told.
-          let now = c.pieces.invariant.progress.moments.continues.told told in
-          let later = subst (λ (area : Area). KeepsArea area (g.H.Disk.view c.pieces.host) (g.H.Disk.view c.run_reading.new.host)) c.pieces.invariant.area (c.run_reading.ensures.spare now) in
-          area_on (spare_in c.args.self.now) _ _ _ (g.met.H.Disk.lawful c.args.host.now told) (g.met.H.Disk.lawful c.pieces.host now) (c.pieces.invariant.spare told) later;
-      progress = one_piece _ _ _ _ _ _ _ was _ c.in-Some.next.reading next.0 next.1 c.run_reading.ensures.moments _ _ next.2 goes_on (λ t. done.printed (was.moments.continues.told t)) done.database;
+      short = inl c.in_ok-failed.ensures.short;
+      progress = one_piece _ _ _ _ _ _ _ was _ c.in-Some.next.reading next.0 next.1 c.run_piece.ensures.moments _ _ next.2 goes_on (λ t. done.printed (was.moments.continues.told t)) done.database;
     }
 
-pub returns-in_err-failed-clause-spare : goal.returns-in_err-failed-clause-spare
-returns-in_err-failed-clause-spare g c told =
-    let now = c.pieces.invariant.progress.moments.continues.told told in
-    let later = subst (λ (area : Area). KeepsArea area (g.H.Disk.view c.pieces.host) (g.H.Disk.view c.run_reading.new.host)) c.pieces.invariant.area (c.run_reading.ensures.spare now) in
-    area_on (spare_in c.args.self.now) _ _ _ (g.met.H.Disk.lawful c.args.host.now told) (g.met.H.Disk.lawful c.pieces.host now) (c.pieces.invariant.spare told) later
+pub returns-in_default-clause-short : goal.returns-in_default-clause-short
+returns-in_default-clause-short g c = c.pieces.invariant.short
 
-pub returns-in_err-failed-clause-area : goal.returns-in_err-failed-clause-area
-returns-in_err-failed-clause-area g c = c.run_reading.ensures.area ∙ c.pieces.invariant.area
-
-pub returns-then-ends_at-clause-spare : goal.returns-then-ends_at-clause-spare
-returns-then-ends_at-clause-spare g c told =
-    let now = c.pieces.invariant.progress.moments.continues.told told in
-    let later = subst (λ (area : Area). KeepsArea area (g.H.Disk.view c.pieces.host) (g.H.Disk.view c.run_reading.new.host)) c.pieces.invariant.area (c.run_reading.ensures.spare now) in
-    area_on (spare_in c.args.self.now) _ _ _ (g.met.H.Disk.lawful c.args.host.now told) (g.met.H.Disk.lawful c.pieces.host now) (c.pieces.invariant.spare told) later
-
-pub returns-then-ends_at-clause-area : goal.returns-then-ends_at-clause-area
-returns-then-ends_at-clause-area g c = c.run_reading.ensures.area ∙ c.pieces.invariant.area
+pub returns-then-ends_at-clause-short : goal.returns-then-ends_at-clause-short
+returns-then-ends_at-clause-short g c = inl c.in_ok-failed.ensures.short

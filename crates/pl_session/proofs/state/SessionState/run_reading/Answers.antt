@@ -2,7 +2,6 @@ use Rattle.std.proofs.Common.{List, ℕ, refl, sym, subst}
 use Rattle.pl_meaning.specs.Trace.{Event}
 use Rattle.pl_session.specs.Endings.{RunsAlong}
 use Rattle.pl_session.specs.Plans.{IsPlan, Spells}
-use Rattle.pl_session.specs.Spare.{spare_in}
 use Rattle.pl_session.specs.State.{database_in}
 use Rattle.pl_session.specs.declared.plan.Plan.{Plan}
 use Rattle.pl_session.proofs.Ends.{answer_done}
@@ -32,9 +31,3 @@ try_change-requires-clause-spelled g c =
     let db = database_in c.args.self.now in
     let plan = subst (λ (p : Plan). IsPlan c.args.reading db p) c.in-Tries.is c.in_ok-plan_of.ensures in
     subst (λ (payload : List ℕ). Spells payload c.in-Tries.change db) (sym c.as_slice.ensures) plan.1
-
-pub returns-in_err-answer-in-Answers-clause-spare : goal.returns-in_err-answer-in-Answers-clause-spare
-returns-in_err-answer-in-Answers-clause-spare g c told = c.answer.ensures.files told (spare_in c.args.self.now)
-
-pub returns-in_ok-answer-in-Answers-clause-spare : goal.returns-in_ok-answer-in-Answers-clause-spare
-returns-in_ok-answer-in-Answers-clause-spare g c told = c.answer.ensures.files told (spare_in c.args.self.now)

@@ -1,5 +1,5 @@
 use Rattle.std.proofs.Common.{◌∙◌, ℕ, Option, Some, sym, ap}
-use Rattle.pl_session.specs.declared.tables.Table.{Table}
+use Rattle.pl_session.specs.declared.table.Table.{Table}
 use Rattle.pl_session.proofs.Named.{next_absent, next_there}
 use Rattle.pl_session.proofs.tables.Tables.next_of.Goals as goal
 

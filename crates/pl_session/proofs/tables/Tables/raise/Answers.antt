@@ -2,7 +2,7 @@ use Rattle.std.proofs.Common.{◌∙◌, refl, sym, ap, subst}
 use Rattle.pl_meaning.specs.Catalogue.{entry_of}
 use Rattle.pl_meaning.specs.Database.{raise_in}
 use Rattle.pl_session.specs.Tables.{object_of, table_of, Becomes}
-use Rattle.pl_session.specs.declared.tables.Table.{Table}
+use Rattle.pl_session.specs.declared.table.Table.{Table}
 use Rattle.pl_session.proofs.InStep.{rows_changed}
 use Rattle.pl_session.proofs.Named.{absent, there}
 use Rattle.pl_session.proofs.tables.Tables.raise.Goals as goal

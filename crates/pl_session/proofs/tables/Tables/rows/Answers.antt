@@ -3,7 +3,7 @@ use Rattle.pl_meaning.specs.Selection.{rows_in}
 use Rattle.pl_value.specs.Frames.{Row, rows_of}
 use Rattle.pl_value.specs.declared.operand.Lent.{Lent}
 use Rattle.pl_session.specs.Tables.{object_of}
-use Rattle.pl_session.specs.declared.tables.Table.{Table}
+use Rattle.pl_session.specs.declared.table.Table.{Table}
 use Rattle.pl_session.proofs.Named.{rows_absent, rows_there}
 use Rattle.pl_session.proofs.tables.Tables.rows.Goals as goal
 

@@ -1,7 +1,7 @@
 use Rattle.std.proofs.Common.{◌≡◌, ◌∙◌, ◌||◌, Bool, true, false, ℕ, length, nat_lt, sym, ap}
 use Rattle.pl_meaning.specs.Database.{has_row, MOST_ROWS}
 use Rattle.pl_session.proofs.Named.{row_found}
-use Rattle.pl_session.proofs.tables.has_room.Goals as goal
+use Rattle.pl_session.proofs.table.has_room.Goals as goal
 
 pub returns-then-contains_key : goal.returns-then-contains_key
 returns-then-contains_key c =

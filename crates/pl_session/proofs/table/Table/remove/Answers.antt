@@ -1,7 +1,7 @@
 use Rattle.std.proofs.Common.{◌∙◌, refl, sym}
 use Rattle.pl_session.specs.Tables.{table_of}
 use Rattle.pl_session.proofs.Named.{not_removed, removed, row_found}
-use Rattle.pl_session.proofs.tables.Table.remove.Goals as goal
+use Rattle.pl_session.proofs.table.Table.remove.Goals as goal
 
 pub returns-then-not-contains_key-clause-done : goal.returns-then-not-contains_key-clause-done
 returns-then-not-contains_key-clause-done c =

@@ -3,7 +3,7 @@ use Rattle.pl_base.specs.declared.value.Value.{Value}
 use Rattle.pl_meaning.specs.Database.{fits, integer_column}
 use Rattle.pl_session.specs.Tables.{table_of}
 use Rattle.pl_session.proofs.Named.{put_done}
-use Rattle.pl_session.proofs.tables.Table.put.Goals as goal
+use Rattle.pl_session.proofs.table.Table.put.Goals as goal
 
 pub returns-clause-done : goal.returns-clause-done
 returns-clause-done c =

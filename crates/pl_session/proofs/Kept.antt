@@ -1,0 +1,129 @@
+-- A store that is kept short.
+use Rattle.std.proofs.Common.{◌≡◌, ◌<◌, ◌-◌, ◌^◌, ◌&&◌, inl, inr, ⊎_elim, ℕ, ◌+◌, ◌*◌, List, [], ◌∷◌, ◌++◌, cond, nat_lt, Bool, true, false, None, Some, Result, Ok, Err, IsErrAnd, refl, sym, ◌∙◌, ap, subst, arith}
+use Rattle.std.proofs.lemmas.Bool.Decides.{nat_tests}
+use Rattle.std.proofs.lemmas.List.{append-nil}
+use Rattle.pl_base.specs.Image.{Image, other}
+use Rattle.pl_disk.specs.Disk.{View, IsLawful, Writes}
+use Rattle.pl_disk.specs.Lent.{after_writes, no_run, run_weaker, writes_weaker}
+use Rattle.pl_keeper.specs.Batches.{Damage}
+use Rattle.pl_keeper.specs.Checkpoint.{CheckpointedPayload, CheckpointingPayload, is_due, next_head}
+use Rattle.pl_keeper.specs.declared.head.Head.{Head}
+use Rattle.pl_meaning.specs.Covered.{AlongFrom}
+use Rattle.pl_meaning.specs.Database.{Database}
+use Rattle.pl_meaning.specs.Opening.{opens}
+use Rattle.pl_meaning.specs.Operation.{apply_payload}
+use Rattle.pl_meaning.specs.Trace.{Event, last_commit, text}
+use Rattle.pl_meaning.specs.Whole.{IsSound}
+use Rattle.pl_session.specs.Endings.{GoesOn, RunsAlong}
+use Rattle.pl_session.specs.State.{database_in, Stores}
+use Rattle.pl_session.specs.Steps.{KeepCause, OpensTo, PieceCause, PieceEnd, StepCause}
+use Rattle.pl_session.specs.declared.halt.Stop.{Stop}
+use Rattle.pl_session.specs.declared.halt.Stop.TheVariants.{Disk, Say, Memory}
+use Rattle.pl_session.specs.declared.state.SessionState.{SessionState}
+use Rattle.pl_session.proofs.Begins.{rises_since}
+use Rattle.pl_session.proofs.Opens.{leads_on, opens_by, spelled_by, stores_open}
+use Rattle.pl_session.proofs.Says.{along_on}
+
+-- ---- the whole database is written anew
+
+-- nothing is written
+pub no_writes : (v : View) (P : Image → Type 0) → Writes v v P
+no_writes v P = record { moments = no_run v _; printed = λ told. refl; say_faults = refl }
+
+-- each moment of a checkpoint opens to the database
+pub rewrites : (a b : View) (keeper : Head) (payload : List ℕ) (db : Database) → (a.told → Stores a keeper db) → apply_payload payload [] ≡ Some db → Writes a b (CheckpointingPayload a keeper payload) → Writes a b (OpensTo db)
+rewrites a b keeper payload db store leads run = writes_weaker a b _ (OpensTo db) run (λ told c is.
+    let s = store told in
+    let it = spelled_by payload [] db leads in
+    ⊎_elim (λ old. opens_by c keeper.area s.list db old s.leads)
+    (λ new. opens_by c (other keeper.area) ((17, it.0) ∷ []) db new (leads_on [] 17 it.0 [] db refl it.2))
+    (is it.0 it.1 s.list s.store))
+
+-- and so does the store after it
+pub rewritten : (b : View) (old new : Head) (payload : List ℕ) (db : Database) → apply_payload payload [] ≡ Some db → CheckpointedPayload b old new payload → Stores b new db
+rewritten b old new payload db leads done =
+    let it = spelled_by payload [] db leads in
+    record { list = (17, it.0) ∷ []; store = (done it.0 it.1).store; leads = leads_on [] 17 it.0 [] db refl it.2 }
+
+-- the next one isn't due at once
+pub next_short : (old new : Head) (end : ℕ) → new ≡ next_head old end → is_due new ≡ false
+next_short old new end is = ap is_due is ∙ (λ i. nat_lt (old.generation + 1) (2 ^ 64 - 1) && nat_lt (2 * (cond (later i) (end + 1) 18) + 4194304) (end + 1)) ∙ ap (λ (b : Bool). nat_lt (old.generation + 1) (2 ^ 64 - 1) && b) never ∙ and_false (nat_lt (old.generation + 1) (2 ^ 64 - 1))
+  where
+    later : nat_lt 0 (old.generation + 1) ≡ true
+    later = grind (arith, nat_tests)
+
+    never : nat_lt (2 * (end + 1) + 4194304) (end + 1) ≡ false
+    never = grind (arith, nat_tests)
+
+    and_false : (b : Bool) → (b && false) ≡ false
+    and_false true = refl
+    and_false false = refl
+
+-- one that is due has a next generation
+pub has_next : (head : Head) → is_due head ≡ true → head.generation < 2 ^ 64 - 1
+has_next head is = by_test (nat_lt head.generation (2 ^ 64 - 1)) refl is
+  where
+    below : nat_lt head.generation (2 ^ 64 - 1) ≡ true → head.generation < 2 ^ 64 - 1
+    below h = grind (arith, nat_tests)
+
+    by_test : (b : Bool) → nat_lt head.generation (2 ^ 64 - 1) ≡ b → (b && nat_lt (2 * head.base + 4194304) (head.end + 1)) ≡ true → head.generation < 2 ^ 64 - 1
+    by_test true h is = below h
+    by_test false h is = absurd (cc)
+
+-- ---- behind a command
+
+as_ok : (a b : Database) → a ≡ b → (let r : Result Database Damage = Ok a in r) ≡ Ok b
+as_ok a b is = ap (λ (d : Database). let r : Result Database Damage = Ok d in r) is
+
+module _ (a m d : View) (before mid : SessionState) (events : List Event) (run : RunsAlong a m events (database_in before)) (done : GoesOn a m before mid events) (writes : Writes m d (OpensTo (database_in mid))) where
+  abbrev db : Database
+  db = last_commit events (database_in before)
+
+  pub kept_moments : RunsAlong a d events (database_in before)
+  kept_moments = subst (λ (es : List Event). RunsAlong a d es (database_in before)) (append-nil events)
+      (along_on a m d events [] (database_in before) done.printed run
+      (run_weaker m d _ (AlongFrom m.printed [] db) writes.moments (λ told p c is. ([], is.0 ∙ sym (append-nil m.printed), (refl, is.1 ∙ as_ok (database_in mid) db done.database)))))
+
+  kept_printed : a.told → d.printed ≡ a.printed ++ text events
+  kept_printed told = writes.printed (run.continues.told told) ∙ done.printed told
+
+  kept_open : IsLawful m → IsLawful d → m.told → (c : Image) → d.may_leave c → opens c ≡ Ok db
+  kept_open lawful lawful' told c left = after_writes m d (OpensTo (database_in mid)) lawful lawful' told writes (λ i was. done.ready.opens_to told i was) c left ∙ as_ok (database_in mid) db done.database
+
+  pub kept_cause : (m.told → IsLawful m) → (d.told → IsLawful d) → (why : Stop) → KeepCause m d why → PieceCause a d events (database_in before) why
+  kept_cause lawful lawful' Disk cause = (rises_since a.disk_faults m.disk_faults d.disk_faults run.continues.disk_faults writes.moments.continues.disk_faults cause, inr kept_printed)
+  kept_cause lawful lawful' Say cause = absurd cause
+  kept_cause lawful lawful' Memory cause = inr (λ told. let now = run.continues.told told in record {
+    printed = kept_printed told;
+    opens_to = λ c left. kept_open (lawful now) (lawful' (writes.moments.continues.told now)) now c left;
+  })
+
+  pub kept_stop : (m.told → IsLawful m) → (d.told → IsLawful d) → (after : SessionState) (why : Stop) (r : Result Bool Stop) → IsErrAnd r (λ x. x ≡ why) → KeepCause m d why → PieceEnd a d before after events r
+  kept_stop lawful lawful' after why (Ok failed) is cause = absurd is
+  kept_stop lawful lawful' after why (Err x) is cause = kept_cause lawful lawful' x (subst (λ (y : Stop). KeepCause m d y) (sym is) cause)
+
+  pub kept_done : (after : SessionState) → after.failed ≡ None → database_in after ≡ database_in mid → (m.told → Stores d after.keeper (database_in mid)) → GoesOn a d before after events
+  kept_done after is_open same store = record {
+    ready = record {
+      is_open = is_open;
+      attached = writes.moments.continues.is_attached done.ready.attached;
+      sound = subst (λ (e : Database). IsSound e) (sym same) done.ready.sound;
+      opens_to = λ told c left. stores_open d after.keeper (database_in after) (kept told) c left;
+      store = kept;
+    };
+    database = same ∙ done.database;
+    printed = kept_printed;
+  }
+    where
+      kept : d.told → Stores d after.keeper (database_in after)
+      kept told = subst (λ (e : Database). Stores d after.keeper e) (sym same) (store (writes.moments.continues.told_before told))
+
+-- a piece stopped as its step did
+pub step_stop : (a m : View) (before after : SessionState) (events : List Event) (why : Stop) (r : Result Bool Stop) → IsErrAnd r (λ x. x ≡ why) → StepCause a m why → PieceEnd a m before after events r
+step_stop a m before after events why (Ok failed) is cause = absurd is
+step_stop a m before after events why (Err x) is cause = by_reason x (subst (λ (y : Stop). StepCause a m y) (sym is) cause)
+  where
+    by_reason : (x : Stop) → StepCause a m x → PieceCause a m events (database_in before) x
+    by_reason Disk is = (is.0, inl is.1)
+    by_reason Say is = is
+    by_reason Memory is = inl is
