@@ -2,7 +2,6 @@
 import collections
 import os
 import select
-import shutil
 import signal
 import time
 
@@ -43,13 +42,6 @@ def seconds_of(times, remark=""):
 
 def answer(holds):
     return "yes" if holds else "no"
-
-
-def copy_synced(path, to):
-    """Else the first sync of a timed run would wait for the copy."""
-    shutil.copyfile(path, to)
-    with open(to, "rb+") as it:
-        os.fsync(it.fileno())
 
 
 def lines_in(path):
