@@ -2,6 +2,7 @@
 
 use crate::report::Report;
 use crate::runs::{PLAIN, Ran, run_on, run_over};
+use crate::stops::PICKS;
 use pl_base::Memory;
 use pl_disk::{Area, MemoryHost, Pick};
 use std::alloc::Global;
@@ -219,8 +220,6 @@ fn one_fault_loses_nothing_of_a_store_that_is_written_anew(rt: HostRuntime) {
 }
 
 // ---- a crash comes
-
-const PICKS: [Pick; 3] = [Pick::Old, Pick::New, Pick::Fill(1)];
 
 // How many commands the files hold that a crash just after the call leaves.
 fn held_after(alloc: Global, host: &MemoryHost, call: u64, pick: Pick) -> usize {

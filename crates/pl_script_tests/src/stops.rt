@@ -183,7 +183,8 @@ fn one_fault_loses_nothing(rt: HostRuntime) {
 
 // ---- a crash comes
 
-const PICKS: [Pick; 5] = [
+/// What a crash may leave of bytes that weren't synced: the old ones, the new ones, or others.
+pub(crate) const PICKS: [Pick; 5] = [
     Pick::Old,
     Pick::New,
     Pick::Fill(0),
