@@ -1,0 +1,6 @@
+//! How the value of an expression goes into a column.
+#![tactic(auto)]
+
+mod assigning;
+
+pub use assigning::assigned;
