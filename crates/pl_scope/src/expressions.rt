@@ -61,6 +61,7 @@ fn or_of(alloc: Global, list: List<RExpr>) -> Result<Typed, ScopeFail>
     Ok(truth_of(alloc, RExpr::Or(list))?)
 }
 
+/// An expression where these names are sought, with what it makes.
 #[cycle(resolving)]
 #[tactic(auto, using(crate::proofs::Equations::equations))]
 pub fn expr(alloc: Global, e: &Expr, names: &Names<'_>, made: &mut Made) -> Result<Typed, ScopeFail>
@@ -422,8 +423,9 @@ fn maybe(
     }
 }
 
+/// A condition, where there is one. 42804 where it is none by its type.
 #[cycle(resolving)]
-pub(crate) fn maybe_condition(
+pub fn maybe_condition(
     alloc: Global,
     e: &Option<Boxed<Expr>>,
     names: &Names<'_>,

@@ -14,7 +14,10 @@ mod resolve;
 mod written;
 
 pub use closing::{Arranged, Clauses, Selected};
+pub use entering::{behind, entered, inside};
+pub use expressions::{expr, maybe_condition};
 pub use made::{Current, Inner, Made};
 pub use ordering::Ordered;
+pub use queries::{items_on, query};
 pub use resolve::{ResolvedExpr, resolve_expr, resolve_query};
 pub use written::Written;

@@ -1,0 +1,4 @@
+pub mod Columns
+pub mod Placing
+pub mod Values
+pub mod Changes
