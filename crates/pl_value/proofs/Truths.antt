@@ -2,6 +2,7 @@
 use Rattle.std.proofs.Common.{◌≡◌, refl, ap, ◌∙◌, Bool, true, false, Option, Some, None, Result, Ok, Err, List, map}
 use Rattle.pl_base.specs.declared.state.State.{State}
 use Rattle.pl_base.specs.declared.value.Value.{Value}
+use Rattle.pl_base.specs.declared.value.Value.TheVariants.{Bool as Truth}
 use Rattle.pl_calc.specs.Logic.{truth_of, truth_value}
 use Rattle.pl_resolved.specs.declared.expression.RExpr.{RExpr}
 use Rattle.pl_resolved.specs.declared.expression.RExpr.TheVariants as e
@@ -45,3 +46,6 @@ passes_in (fails state w) = refl
 
 pub passes_is : {W : Type 0} (p : Part W) (frame : Frame) (w : W) → passes p frame w ≡ then_read {A = Option Bool} (truth p frame w) (λ t w. got (is_so t) w)
 passes_is p frame w = passes_in (p frame w)
+
+pub passes_gives : {W : Type 0} (p : Part W) (b : Bool) (frame : Frame) (w : W) → p frame w ≡ got (Truth b) w → passes p frame w ≡ got b w
+passes_gives p b frame w reads = ap (λ (q : Reading _ Value). then_read {B = Bool} q (λ v w. settled (passed v) w)) reads

@@ -34,15 +34,11 @@ pub(crate) fn numbers_hold(comparison: Comparison, a: Number, b: Number) -> bool
     is_order(comparison, order(a, b))
 }
 
+#[tactic(auto, using(crate::proofs::Numbers::ordered))]
 fn order(a: Number, b: Number) -> Ordering
     ensures { order_of (number_value a) (number_value b) ≡ Some result }
 {
-    match (a, b) {
-        (Number::Int(a), Number::Int(b)) => a.cmp(&b),
-        (Number::Int(a), Number::Big(b)) => i64::from(a).cmp(&b),
-        (Number::Big(a), Number::Int(b)) => a.cmp(&i64::from(b)),
-        (Number::Big(a), Number::Big(b)) => a.cmp(&b),
-    }
+    a.whole.cmp(&b.whole)
 }
 
 // The comparison holds of two values in this order.

@@ -82,7 +82,8 @@ fn operand_in<'a, C>(e: &'a RExpr, frame: &[Lent<'a>]) -> Option<Operand<'a>>
         return Some(Operand::lent(v));
     }
     let number = number_in::<C>(e, frame, NUMBER_DEPTH)?;
-    Some(Operand::made(value_of(number)))
+    let v = value_of(number)?;
+    Some(Operand::made(v))
 }
 
 // Whether one of the others equals x. Each of them is looked at, also behind one that does, since

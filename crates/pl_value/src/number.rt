@@ -1,14 +1,16 @@
 //! Arithmetic on numbers that stand, without a value in between. What is null or no number, or
 //! fails, is left to the reading of values: nothing here says why there is no number.
 
-ghost use Rattle.std.specs.Prelude.{◌≡◌, map, IfSome, Ok};
-ghost use Rattle.pl_calc.specs.Numbers.{arithmetic, bigint, then_as};
-ghost use Rattle.pl_calc.specs.Numbers.{integer as as_integer};
+ghost use Rattle.std.specs.Prelude.{◌≡◌, ℤ, false, if◌then◌else◌, map, option_map, true, IfSome};
+ghost use Rattle.std.specs.Prelude.{Ok, Some};
+ghost use Rattle.pl_calc.specs.Numbers.{arithmetic, then_as};
+ghost use Rattle.pl_calc.specs.Numbers.{bigint as as_bigint, integer as as_integer};
 ghost use Rattle.pl_calc.specs.Operators.{binary_value};
 ghost use Rattle.pl_value.specs.Frames.{cell, or_null, rows_of};
 ghost use Rattle.pl_value.specs.Meaning as spec;
 ghost use Rattle.pl_value.specs.Meaning.{Calls, Sub};
-ghost use Rattle.pl_value.specs.Number.{number_value};
+ghost use Rattle.pl_value.specs.Number.{number_value, of_kind, packed_value};
+ghost use Rattle.pl_value.specs.Number.{typed_value};
 ghost use Rattle.pl_value.specs.Reading.{got};
 
 use crate::Lent;
@@ -17,37 +19,108 @@ use pl_base::{Arithmetic, Operator, Value};
 use pl_calc::whole;
 use pl_resolved::{RChain, RExpr, RStep};
 
-/// A number of 32 or of 64 bits.
+/// A number, and whether its type is integer, of 32 bits, or bigint, of 64.
 #[derive(Clone, Copy)]
-pub(crate) enum Number {
-    Int(i32),
-    Big(i64),
+pub(crate) struct Number {
+    pub whole: i64,
+    pub is_integer: bool,
+}
+
+// A number or none, as two registers hold it: a call that is passed on so takes no memory.
+#[derive(Clone, Copy)]
+struct Packed {
+    kind: Kind,
+    whole: i64,
+}
+
+#[derive(Clone, Copy)]
+enum Kind {
+    Nothing,
+    Integer,
+    Bigint,
+}
+
+#[inline(always)]
+fn pack(number: Option<Number>) -> Packed
+    ensures { packed_value result ≡ option_map number_value number }
+{
+    match number {
+        Some(number) => Packed {
+            kind: number_kind(number.is_integer),
+            whole: number.whole,
+        },
+        None => Packed {
+            kind: Kind::Nothing,
+            whole: 0,
+        },
+    }
+}
+
+#[inline(always)]
+fn number_kind(is_integer: bool) -> Kind
+    ensures { (z : ℤ) → of_kind result z ≡ Some (typed_value is_integer z) }
+{
+    if is_integer {
+        Kind::Integer
+    } else {
+        Kind::Bigint
+    }
+}
+
+#[inline(always)]
+fn unpack(packed: Packed) -> Option<Number>
+    ensures { option_map number_value result ≡ packed_value packed }
+{
+    let whole = packed.whole;
+    match packed.kind {
+        Kind::Nothing => None,
+        Kind::Integer => Some(Number {
+            whole,
+            is_integer: true,
+        }),
+        Kind::Bigint => Some(Number {
+            whole,
+            is_integer: false,
+        }),
+    }
 }
 
 /// How deep chains in chains are read as numbers. It bounds how often a part is read again as a
 /// value, where a chain around it turns out to be no number.
 pub(crate) const NUMBER_DEPTH: usize = 8;
 
-/// The number as a value.
-pub(crate) fn value_of(number: Number) -> Value
-    ensures { result ≡ number_value number }
+/// The number as a value. None for an integer that 32 bits can't hold.
+#[inline(always)]
+pub(crate) fn value_of(number: Number) -> Option<Value>
+    ensures { IfSome result (λ v. v ≡ number_value number) }
 {
-    match number {
-        Number::Int(number) => Value::Int(number),
-        Number::Big(number) => Value::Big(number),
+    if !number.is_integer {
+        return Some(Value::Big(number.whole));
+    }
+    match i32::try_from(number.whole) {
+        Ok(whole) => Some(Value::Int(whole)),
+        Err(_) => None,
     }
 }
 
+#[inline(always)]
 fn number_of(value: &Value) -> Option<Number>
     ensures { IfSome result (λ n. value.now ≡ number_value n) }
 {
     match value {
-        Value::Int(number) => Some(Number::Int(*number)),
-        Value::Big(number) => Some(Number::Big(*number)),
+        Value::Int(number) => Some(Number {
+            whole: i64::from(*number),
+            is_integer: true,
+        }),
+        Value::Big(number) => Some(Number {
+            whole: *number,
+            is_integer: false,
+        }),
         _ => None,
     }
 }
 
+#[inline(always)]
 fn number_at(frame: &[Lent<'_>], row: usize, column: usize) -> Option<Number>
     ensures { IfSome result (λ n.
         or_null (cell (rows_of frame.now) row column) ≡ number_value n) }
@@ -61,6 +134,7 @@ fn number_at(frame: &[Lent<'_>], row: usize, column: usize) -> Option<Number>
 /// The number that the expression gives over the rows that stand. None where it is to be read as a
 /// value.
 #[cycle(number)]
+#[inline(always)]
 pub(crate) fn number_in<C>(e: &RExpr, frame: &[Lent<'_>], depth: usize) -> Option<Number>
     ensures { IfSome result (λ n. (calls : Calls C) (sub : Sub C) (caller : C)
         → spec.value calls sub e.now (rows_of frame.now) caller ≡ got (number_value n) caller) }
@@ -68,14 +142,70 @@ pub(crate) fn number_in<C>(e: &RExpr, frame: &[Lent<'_>], depth: usize) -> Optio
     match e {
         RExpr::Constant(value) => number_of(value),
         RExpr::Place { row, column } => number_at(frame, *row, *column),
-        RExpr::Chain(chain) if depth > 0 => chain_number::<C>(chain.get(), frame, depth - 1),
+        RExpr::Chain(chain) if depth > 0 => {
+            unpack(chain_packed::<C>(chain.get(), frame, depth - 1))
+        }
         _ => None,
     }
 }
 
-/// The same, of operators of one level.
+/// The value of operators of one level that gives a number. None where it is to be read as a value.
+#[inline(always)]
+pub(crate) fn chain_made<C>(chain: &RChain, frame: &[Lent<'_>]) -> Option<Value>
+    ensures { IfSome result (λ v. (calls : Calls C) (sub : Sub C) (caller : C)
+        → spec.chain calls sub chain.now (rows_of frame.now) caller ≡ got v caller) }
+{
+    let number = chain_number::<C>(chain, frame)?;
+    let v = value_of(number)?;
+    Some(v)
+}
+
+#[inline(always)]
+fn chain_number<C>(chain: &RChain, frame: &[Lent<'_>]) -> Option<Number>
+    ensures { IfSome result (λ n. (calls : Calls C) (sub : Sub C) (caller : C)
+        → spec.chain calls sub chain.now (rows_of frame.now) caller
+        ≡ got (number_value n) caller) }
+{
+    unpack(chain_packed::<C>(chain, frame, NUMBER_DEPTH))
+}
+
 #[cycle(number)]
-pub(crate) fn chain_number<C>(chain: &RChain, frame: &[Lent<'_>], depth: usize) -> Option<Number>
+#[inline(never)]
+fn chain_packed<C>(chain: &RChain, frame: &[Lent<'_>], depth: usize) -> Packed
+    ensures { IfSome (packed_value result) (λ v. (calls : Calls C) (sub : Sub C) (caller : C)
+        → spec.chain calls sub chain.now (rows_of frame.now) caller ≡ got v caller) }
+{
+    pack(outer_chain::<C>(chain, frame, depth))
+}
+
+#[cycle(number)]
+#[inline(always)]
+fn outer_chain<C>(chain: &RChain, frame: &[Lent<'_>], depth: usize) -> Option<Number>
+    ensures { IfSome result (λ n. (calls : Calls C) (sub : Sub C) (caller : C)
+        → spec.chain calls sub chain.now (rows_of frame.now) caller
+        ≡ got (number_value n) caller) }
+{
+    let first = number_of_chain::<C>(&chain.first, frame, depth)?;
+    steps_number::<C>(chain.steps.as_slice(), first, frame, depth)
+}
+
+/// The same as `number_in`, but a chain is read in place and not by a call, which costs as much as
+/// a step: for operands that mostly are chains.
+#[cycle(number)]
+#[inline(always)]
+pub(crate) fn number_of_chain<C>(e: &RExpr, frame: &[Lent<'_>], depth: usize) -> Option<Number>
+    ensures { IfSome result (λ n. (calls : Calls C) (sub : Sub C) (caller : C)
+        → spec.value calls sub e.now (rows_of frame.now) caller ≡ got (number_value n) caller) }
+{
+    match e {
+        RExpr::Chain(chain) if depth > 0 => inner_chain::<C>(chain.get(), frame, depth - 1),
+        _ => number_in::<C>(e, frame, depth),
+    }
+}
+
+#[cycle(number)]
+#[inline(always)]
+fn inner_chain<C>(chain: &RChain, frame: &[Lent<'_>], depth: usize) -> Option<Number>
     ensures { IfSome result (λ n. (calls : Calls C) (sub : Sub C) (caller : C)
         → spec.chain calls sub chain.now (rows_of frame.now) caller
         ≡ got (number_value n) caller) }
@@ -85,6 +215,7 @@ pub(crate) fn chain_number<C>(chain: &RChain, frame: &[Lent<'_>], depth: usize) 
 }
 
 #[cycle(number)]
+#[inline(always)]
 fn steps_number<C>(
     steps: &[RStep],
     first: Number,
@@ -103,6 +234,7 @@ fn steps_number<C>(
 }
 
 #[cycle(number)]
+#[inline(always)]
 fn step_number<C>(step: &RStep, so_far: Number, frame: &[Lent<'_>], depth: usize) -> Option<Number>
     ensures { IfSome result (λ n. (calls : Calls C) (sub : Sub C) (caller : C)
         → spec.step_read (spec.step calls sub step.now) (number_value so_far)
@@ -115,47 +247,67 @@ fn step_number<C>(step: &RStep, so_far: Number, frame: &[Lent<'_>], depth: usize
     calculated(operator, so_far, operand)
 }
 
+#[inline(always)]
+#[tactic(auto, using(crate::proofs::Numbers::integers_give, crate::proofs::Numbers::bigints_give))]
 fn calculated(operator: Arithmetic, a: Number, b: Number) -> Option<Number>
     ensures { IfSome result (λ n. binary_value (Operator.Arithmetic operator)
         (number_value a) (number_value b) ≡ Ok (number_value n)) }
 {
-    match (a, b) {
-        (Number::Int(a), Number::Int(b)) => integer(operator, a, b),
-        (Number::Int(a), Number::Big(b)) => big(operator, i64::from(a), b),
-        (Number::Big(a), Number::Int(b)) => big(operator, a, i64::from(b)),
-        (Number::Big(a), Number::Big(b)) => big(operator, a, b),
+    if are_integers(a, b) {
+        let whole = integer(operator, a.whole, b.whole)?;
+        Some(Number {
+            whole,
+            is_integer: true,
+        })
+    } else {
+        let whole = bigint(operator, a.whole, b.whole)?;
+        Some(Number {
+            whole,
+            is_integer: false,
+        })
     }
 }
 
-fn integer(operator: Arithmetic, a: i32, b: i32) -> Option<Number>
-    ensures { IfSome result (λ n. then_as as_integer (arithmetic operator a b)
-        ≡ Ok (number_value n)) }
+#[inline(always)]
+fn are_integers(a: Number, b: Number) -> bool
+    ensures { result ≡ (if a.is_integer then b.is_integer else false) }
 {
-    let Ok(number) = whole(operator, i64::from(a), i64::from(b)) else {
+    a.is_integer && b.is_integer
+}
+
+#[inline(always)]
+fn integer(operator: Arithmetic, a: i64, b: i64) -> Option<i64>
+    ensures { IfSome result (λ z. then_as as_integer (arithmetic operator a b)
+        ≡ Ok (typed_value true z)) }
+{
+    let Ok(number) = whole(operator, a, b) else {
         return None;
     };
     match i32::try_from(number) {
-        Ok(number) => Some(Number::Int(number)),
+        Ok(number) => Some(i64::from(number)),
         Err(_) => None,
     }
 }
 
-fn big(operator: Arithmetic, a: i64, b: i64) -> Option<Number>
-    ensures { IfSome result (λ n. then_as bigint (arithmetic operator a b)
-        ≡ Ok (number_value n)) }
+#[inline(always)]
+fn bigint(operator: Arithmetic, a: i64, b: i64) -> Option<i64>
+    ensures { IfSome result (λ z. then_as as_bigint (arithmetic operator a b)
+        ≡ Ok (typed_value false z)) }
 {
     match whole(operator, a, b) {
-        Ok(number) => Some(Number::Big(number)),
+        Ok(number) => Some(number),
         Err(_) => None,
     }
 }
 
 /// What the operator gives for two numbers. None where it is to be read as a value.
-pub(crate) fn of_numbers(operator: Operator, x: &Value, y: &Value) -> Option<Number>
-    ensures { IfSome result (λ n. binary_value operator x.now y.now ≡ Ok (number_value n)) }
+pub(crate) fn of_numbers(operator: Operator, x: &Value, y: &Value) -> Option<Value>
+    ensures { IfSome result (λ v. binary_value operator x.now y.now ≡ Ok v) }
 {
     let Operator::Arithmetic(operator) = operator else {
         return None;
     };
-    calculated(operator, number_of(x)?, number_of(y)?)
+    let number = calculated(operator, number_of(x)?, number_of(y)?)?;
+    let v = value_of(number)?;
+    Some(v)
 }

@@ -12,7 +12,7 @@ ghost use Rattle.pl_value.specs.Combined.{cast_through, equals, is_true, repeate
 ghost use Rattle.pl_value.specs.Meaning.{is_fixed, is_so, joint, met, true_of};
 ghost use Rattle.pl_value.specs.Reading.{settled};
 
-use crate::number::{of_numbers, value_of};
+use crate::number::of_numbers;
 use crate::{Operand, Unsettled};
 use pl_base::{Comparison, Operator, State, Ty, Value};
 use pl_calc::{CalcFail, binary, cast, unary};
@@ -73,7 +73,7 @@ pub(crate) fn of_two<'a, C>(
     ensures { (left : C) → Reads (settled (binary_value operator x.now y.now) left) result left }
 {
     match of_numbers(operator, x, y) {
-        Some(number) => Ok(Operand::made(value_of(number))),
+        Some(v) => Ok(Operand::made(v)),
         None => of_two_values::<C>(alloc, operator, x, y),
     }
 }

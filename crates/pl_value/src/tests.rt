@@ -207,7 +207,7 @@ struct Calculation {
     is_positive: i64,
 }
 
-const CALCULATIONS: [Calculation; 12] = [
+const CALCULATIONS: [Calculation; 13] = [
     Calculation {
         name: "7 + 3 * 2, all from the left",
         first: Term::Int(7),
@@ -216,6 +216,18 @@ const CALCULATIONS: [Calculation; 12] = [
             (Arithmetic::Multiply, Term::Int(2)),
         ],
         number: 20,
+        is_positive: 1,
+    },
+    Calculation {
+        name: "100 - 7 * 3 / 2 % 50, all from the left",
+        first: Term::Int(100),
+        steps: &[
+            (Arithmetic::Subtract, Term::Int(7)),
+            (Arithmetic::Multiply, Term::Big(3)),
+            (Arithmetic::Divide, Term::Int(2)),
+            (Arithmetic::Remainder, Term::Int(50)),
+        ],
+        number: 39,
         is_positive: 1,
     },
     Calculation {
@@ -335,9 +347,31 @@ fn chain_of(alloc: Global, case: &Calculation) -> Result<RExpr, AllocError> {
     Ok(RExpr::Chain(Boxed::new(alloc, RChain { first, steps })?))
 }
 
+fn step_of(
+    alloc: Global,
+    first: RExpr,
+    operator: Arithmetic,
+    operand: Term,
+) -> Result<RExpr, AllocError> {
+    let mut steps = List::new(alloc);
+    steps.push(RStep {
+        operator: Operator::Arithmetic(operator),
+        operand: constant(operand),
+    })?;
+    Ok(RExpr::Chain(Boxed::new(alloc, RChain { first, steps })?))
+}
+
+// The same, each step of it in brackets.
+fn nested_chain_of(alloc: Global, case: &Calculation) -> Result<RExpr, AllocError> {
+    let mut so_far = constant(case.first);
+    for (operator, operand) in case.steps {
+        so_far = step_of(alloc, so_far, *operator, *operand)?;
+    }
+    Ok(so_far)
+}
+
 // Whether what is calculated is above zero.
-fn is_positive(alloc: Global, case: &Calculation) -> Result<RExpr, AllocError> {
-    let first = chain_of(alloc, case)?;
+fn is_positive(alloc: Global, first: RExpr) -> Result<RExpr, AllocError> {
     let second = constant(Term::Int(0));
     Ok(RExpr::Binary {
         operator: Operator::Compare(Comparison::Greater),
@@ -345,9 +379,22 @@ fn is_positive(alloc: Global, case: &Calculation) -> Result<RExpr, AllocError> {
     })
 }
 
+fn has_number(alloc: Global, e: Result<RExpr, AllocError>, case: &Calculation) -> bool {
+    number(alloc, e) == case.number
+}
+
+fn has_truth(alloc: Global, e: Result<RExpr, AllocError>, case: &Calculation) -> bool {
+    match e {
+        Ok(e) => passed(alloc, is_positive(alloc, e)) == case.is_positive,
+        Err(_) => false,
+    }
+}
+
 fn is_right(alloc: Global, case: &Calculation) -> bool {
-    number(alloc, chain_of(alloc, case)) == case.number
-        && passed(alloc, is_positive(alloc, case)) == case.is_positive
+    has_number(alloc, chain_of(alloc, case), case)
+        && has_number(alloc, nested_chain_of(alloc, case), case)
+        && has_truth(alloc, chain_of(alloc, case), case)
+        && has_truth(alloc, nested_chain_of(alloc, case), case)
 }
 
 // The first calculation that gives another number.

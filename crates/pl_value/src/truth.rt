@@ -3,6 +3,7 @@
 //! there is, each failure among it, is left to the reading of values.
 
 ghost use Rattle.std.specs.Prelude.{◌≡◌, map, IfSome, Ok};
+ghost use Rattle.pl_base.specs.declared.value.Value.TheVariants.{Bool as Truth};
 ghost use Rattle.pl_calc.specs.Logic.{truth_value};
 ghost use Rattle.pl_calc.specs.Operators.{unary_value};
 ghost use Rattle.pl_value.specs.Combined as made;
@@ -14,10 +15,10 @@ ghost use Rattle.pl_value.specs.Reading.{got, settled};
 use crate::Lent;
 use crate::comparison::{numbers_hold, values_compared};
 use crate::membership::{is_among, lies_between};
-use crate::number::{NUMBER_DEPTH, number_in};
+use crate::number::{NUMBER_DEPTH, number_in, number_of_chain};
 use crate::operations::{is_null, turned};
 use crate::standing::leaf;
-use pl_base::{Comparison, Operator, Test, Value};
+use pl_base::{Operator, Test, Value};
 use pl_resolved::{Combination, RExpr, RPair};
 
 /// The truth of the expression, which is None where it is unknown. No truth at all where it is to
@@ -103,29 +104,55 @@ fn compared<'a, C>(pair: &'a RPair, operator: Operator, frame: &[Lent<'a>]) -> O
         → spec.two operator (spec.pair calls sub pair.now) (rows_of frame.now) caller
         ≡ got (truth_value t) caller) }
 {
-    let Operator::Compare(comparison) = operator else {
-        return None;
-    };
-    match (
-        leaf::<C>(&pair.first, frame),
-        leaf::<C>(&pair.second, frame),
-    ) {
-        (Some(a), Some(b)) => values_compared(comparison, a, b),
-        _ => numbers_compared::<C>(comparison, pair, frame),
+    match numbers_compared::<C>(pair, operator, frame) {
+        Some(holds) => Some(Some(holds)),
+        None => leaves_compared::<C>(pair, operator, frame),
     }
 }
 
-// The truth of a comparison of two numbers. No truth at all where an operand is none.
-fn numbers_compared<C>(
-    comparison: Comparison,
-    pair: &RPair,
-    frame: &[Lent<'_>],
+// The same of two values that stand.
+fn leaves_compared<'a, C>(
+    pair: &'a RPair,
+    operator: Operator,
+    frame: &[Lent<'a>],
 ) -> Option<Option<bool>>
     ensures { IfSome result (λ t. (calls : Calls C) (sub : Sub C) (caller : C)
-        → spec.two (Operator.Compare comparison) (spec.pair calls sub pair.now)
-        (rows_of frame.now) caller ≡ got (truth_value t) caller) }
+        → spec.two operator (spec.pair calls sub pair.now) (rows_of frame.now) caller
+        ≡ got (truth_value t) caller) }
 {
-    let a = number_in::<C>(&pair.first, frame, NUMBER_DEPTH)?;
+    let Operator::Compare(comparison) = operator else {
+        return None;
+    };
+    let a = leaf::<C>(&pair.first, frame)?;
+    let b = leaf::<C>(&pair.second, frame)?;
+    values_compared(comparison, a, b)
+}
+
+/// Whether the condition holds, a comparison of two numbers. None of any other.
+#[inline(never)]
+pub(crate) fn numbers_hold_in<C>(e: &RExpr, frame: &[Lent<'_>]) -> Option<bool>
+    ensures { IfSome result (λ b. (calls : Calls C) (sub : Sub C) (caller : C)
+        → spec.value calls sub e.now (rows_of frame.now) caller ≡ got (Truth b) caller) }
+{
+    match e {
+        RExpr::Binary { operator, operands } => {
+            numbers_compared::<C>(operands.get(), *operator, frame)
+        }
+        _ => None,
+    }
+}
+
+// Whether a comparison of two numbers holds. None where an operand is no number.
+#[inline(always)]
+fn numbers_compared<C>(pair: &RPair, operator: Operator, frame: &[Lent<'_>]) -> Option<bool>
+    ensures { IfSome result (λ b. (calls : Calls C) (sub : Sub C) (caller : C)
+        → spec.two operator (spec.pair calls sub pair.now) (rows_of frame.now) caller
+        ≡ got (Truth b) caller) }
+{
+    let Operator::Compare(comparison) = operator else {
+        return None;
+    };
+    let a = number_of_chain::<C>(&pair.first, frame, NUMBER_DEPTH)?;
     let b = number_in::<C>(&pair.second, frame, NUMBER_DEPTH)?;
-    Some(Some(numbers_hold(comparison, a, b)))
+    Some(numbers_hold(comparison, a, b))
 }

@@ -9,31 +9,31 @@ use Rattle.pl_value.proofs.Lists.{combined_is, call_is, row_is, and_is, or_is, b
 use Rattle.pl_value.proofs.Leaves.{two_leaves, two_left}
 use Rattle.pl_value.proofs.Cases.{without_operand, with_operand, holds_by}
 use Rattle.pl_value.proofs.Single.{single_is}
-use Rattle.pl_value.proofs.Truths.{and_truth, or_truth, passes_is, truth_gives}
+use Rattle.pl_value.proofs.Truths.{and_truth, or_truth, passes_gives, passes_is, truth_gives}
 use Rattle.pl_value.proofs.expression.+value.Goals as goal
 
-pub value-returns-in-Binary : goal.value-returns-in-Binary
-value-returns-in-Binary g t c = subst (λ (q : Reading _ Value). Reads {A = Value} q c.two.result c.two.new.caller)
+pub value_by_kind-returns-in-Binary : goal.value_by_kind-returns-in-Binary
+value_by_kind-returns-in-Binary g t c = subst (λ (q : Reading _ Value). Reads {A = Value} q c.two.result c.two.new.caller)
     (sym (binary_is g.C.Caller.calls (g.S.Subqueries.sub c.args.sub.now) c.args.e.now c.in-Binary.operator c.in-Binary.operands _ (rows_of c.args.frame.now) c.args.caller.now c.in-Binary.is c.get-in-Binary.ensures)) c.two.ensures
 
-pub value-returns-in-And : goal.value-returns-in-And
-value-returns-in-And g t c = subst (λ (q : Reading _ Value). Reads {A = Value} q c.all_or_any.result c.all_or_any.new.caller)
+pub value_by_kind-returns-in-And : goal.value_by_kind-returns-in-And
+value_by_kind-returns-in-And g t c = subst (λ (q : Reading _ Value). Reads {A = Value} q c.all_or_any.result c.all_or_any.new.caller)
     (sym (and_is g.C.Caller.calls (g.S.Subqueries.sub c.args.sub.now) c.args.e.now c.in-And.parts _ (rows_of c.args.frame.now) c.args.caller.now c.in-And.is c.as_slice-in-And.ensures)) c.all_or_any.ensures
 
-pub value-returns-in-Or : goal.value-returns-in-Or
-value-returns-in-Or g t c = subst (λ (q : Reading _ Value). Reads {A = Value} q c.all_or_any-in-Or.result c.all_or_any-in-Or.new.caller)
+pub value_by_kind-returns-in-Or : goal.value_by_kind-returns-in-Or
+value_by_kind-returns-in-Or g t c = subst (λ (q : Reading _ Value). Reads {A = Value} q c.all_or_any-in-Or.result c.all_or_any-in-Or.new.caller)
     (sym (or_is g.C.Caller.calls (g.S.Subqueries.sub c.args.sub.now) c.args.e.now c.in-Or.parts _ (rows_of c.args.frame.now) c.args.caller.now c.in-Or.is c.as_slice-in-Or.ensures)) c.all_or_any-in-Or.ensures
 
-pub value-returns-in-Combined : goal.value-returns-in-Combined
-value-returns-in-Combined g t c = subst (λ (q : Reading _ Value). Reads {A = Value} q c.combined.result c.combined.new.caller)
+pub value_by_kind-returns-in-Combined : goal.value_by_kind-returns-in-Combined
+value_by_kind-returns-in-Combined g t c = subst (λ (q : Reading _ Value). Reads {A = Value} q c.combined.result c.combined.new.caller)
     (sym (combined_is g.C.Caller.calls (g.S.Subqueries.sub c.args.sub.now) c.args.e.now c.in-Combined.combination c.in-Combined.operands _ (rows_of c.args.frame.now) c.args.caller.now c.in-Combined.is c.as_slice-in-Combined.ensures)) c.combined.ensures
 
-pub value-returns-in-Row : goal.value-returns-in-Row
-value-returns-in-Row g t c = subst (λ (q : Reading _ Value). Reads {A = Value} q c.row_of.result c.row_of.new.caller)
+pub value_by_kind-returns-in-Row : goal.value_by_kind-returns-in-Row
+value_by_kind-returns-in-Row g t c = subst (λ (q : Reading _ Value). Reads {A = Value} q c.row_of.result c.row_of.new.caller)
     (sym (row_is g.C.Caller.calls (g.S.Subqueries.sub c.args.sub.now) c.args.e.now c.in-Row.types _ c.in-Row.fields _ (rows_of c.args.frame.now) c.args.caller.now c.in-Row.is (search rules) (search rules))) c.row_of.ensures
 
-pub value-returns-in-Call : goal.value-returns-in-Call
-value-returns-in-Call g t c = subst (λ (q : Reading _ Value). Reads {A = Value} q c.call.result c.call.new.caller)
+pub value_by_kind-returns-in-Call : goal.value_by_kind-returns-in-Call
+value_by_kind-returns-in-Call g t c = subst (λ (q : Reading _ Value). Reads {A = Value} q c.call.result c.call.new.caller)
     (sym (call_is g.C.Caller.calls (g.S.Subqueries.sub c.args.sub.now) c.args.e.now c.in-Call.routine c.in-Call.arguments _ (rows_of c.args.frame.now) c.args.caller.now c.in-Call.is c.as_slice-in-Call.ensures)) c.call.ensures
 
 pub two-returns-in-Some-Some : goal.two-returns-in-Some-Some
@@ -76,7 +76,7 @@ meets-returns g t c =
 pub chained-returns-in-Some : goal.chained-returns-in-Some
 chained-returns-in-Some g t c =
     c.in-Some.ensures g.C.Caller.calls (g.S.Subqueries.sub c.args.sub.now) c.args.caller.now
-    ∙ ap (λ (v : Value). got v c.args.caller.now) (sym (c.made.ensures ∙ c.value_of.ensures))
+    ∙ ap (λ (v : Value). got v c.args.caller.now) (sym c.made.ensures)
 
 pub truth-returns-in-And : goal.truth-returns-in-And
 truth-returns-in-And g t c = subst (λ (q : Reading _ (Option Bool)). Reads {A = Option Bool} q c.joined.result c.joined.new.caller)
@@ -91,14 +91,14 @@ truth-returns-in-Some g t c =
     truth_gives (value g.C.Caller.calls (g.S.Subqueries.sub c.args.sub.now) c.args.part.now) _ (rows_of c.args.frame.now) c.args.caller.now
     (c.in-Some.ensures g.C.Caller.calls (g.S.Subqueries.sub c.args.sub.now) c.args.caller.now)
 
-pub passes-returns-in-Ok : goal.passes-returns-in-Ok
-passes-returns-in-Ok g t c =
+pub passes_by_truth-returns-in-Ok : goal.passes_by_truth-returns-in-Ok
+passes_by_truth-returns-in-Ok g t c =
     passes_is (value g.C.Caller.calls (g.S.Subqueries.sub c.args.sub.now) c.args.condition.now) (rows_of c.args.frame.now) c.args.caller.now
     ∙ (ap (λ (q : Reading _ (Option Bool)). then_read {A = Option Bool} {B = Bool} q (λ t w. got (is_so t) w)) c.in-Ok.ensures
     ∙ ap (λ (b : Bool). got b c.truth.new.caller) (sym c.is_so.ensures))
 
-pub passes-returns-in-Err : goal.passes-returns-in-Err
-passes-returns-in-Err g t c =
+pub passes_by_truth-returns-in-Err : goal.passes_by_truth-returns-in-Err
+passes_by_truth-returns-in-Err g t c =
     stops {A = Option Bool} {B = Bool} _ (truth (value g.C.Caller.calls (g.S.Subqueries.sub c.args.sub.now) c.args.condition.now) (rows_of c.args.frame.now) c.args.caller.now)
     (λ t w. got (is_so t) w) _ _
     (passes_is (value g.C.Caller.calls (g.S.Subqueries.sub c.args.sub.now) c.args.condition.now) (rows_of c.args.frame.now) c.args.caller.now) c.in-Err.ensures
@@ -106,3 +106,8 @@ passes-returns-in-Err g t c =
 pub combined-returns-in-Some : goal.combined-returns-in-Some
 combined-returns-in-Some g t c = subst (λ (q : Reading _ Value). Reads {A = Value} q c.single.result c.single.new.caller)
     (sym (single_is (value g.C.Caller.calls (g.S.Subqueries.sub c.args.sub.now)) c.args.combination c.args.parts.now _ (rows_of c.args.frame.now) c.args.caller.now c.in-Some.ensures)) c.single.ensures
+
+pub passes-returns-in-Some : goal.passes-returns-in-Some
+passes-returns-in-Some g t c =
+    passes_gives (value g.C.Caller.calls (g.S.Subqueries.sub c.args.sub.now) c.args.condition.now) _ (rows_of c.args.frame.now) c.args.caller.now
+    (c.in-Some.ensures g.C.Caller.calls (g.S.Subqueries.sub c.args.sub.now) c.args.caller.now)

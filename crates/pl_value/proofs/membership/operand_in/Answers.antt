@@ -9,4 +9,4 @@ returns-in-Some g c = λ calls sub caller.
 
 pub returns : goal.returns
 returns g c = λ calls sub caller.
-    c.in_ok-number.ensures calls sub caller ∙ ap (λ (v : Value). got v caller) (sym (c.made.ensures ∙ c.value_of.ensures))
+    c.in_ok-number.ensures calls sub caller ∙ ap (λ (v : Value). got v caller) (sym (c.made.ensures ∙ c.in_ok-v.ensures))

@@ -5,15 +5,26 @@ use Rattle.pl_value.specs.Meaning.{step, steps_read}
 use Rattle.pl_value.specs.Number.{number_value}
 use Rattle.pl_value.specs.Reading.{then_read}
 use Rattle.pl_value.proofs.Lists.{steps_here}
-use Rattle.pl_value.proofs.Numbers.{chain_gives, chain_value, step_gives}
+use Rattle.pl_value.proofs.Numbers.{IsOfChain, chain_gives, chain_value, of_packed, step_gives, to_packed}
 use Rattle.pl_value.proofs.number.+number.Goals as goal
 
 pub number_in-returns-in-Chain : goal.number_in-returns-in-Chain
-number_in-returns-in-Chain g t c = IfSome_then c.chain_number.result c.chain_number.ensures (λ n reads calls sub caller.
+number_in-returns-in-Chain g t c = IfSome_then c.unpack.result (of_packed (IsOfChain g.row.C.Denot c.get.result.now (rows_of c.args.frame.now)) number_value c.unpack.result _ c.unpack.ensures c.chain_packed.ensures) (λ n reads calls sub caller.
     chain_value calls sub c.args.e.now c.in-Chain.chain _ (rows_of c.args.frame.now) caller c.in-Chain.is c.get.ensures ∙ reads calls sub caller)
 
-pub chain_number-returns : goal.chain_number-returns
-chain_number-returns g t c = IfSome_then c.steps_number.result c.steps_number.ensures (λ n reads calls sub caller.
+pub number_of_chain-returns-in-Chain : goal.number_of_chain-returns-in-Chain
+number_of_chain-returns-in-Chain g t c = IfSome_then c.inner_chain.result c.inner_chain.ensures (λ n reads calls sub caller.
+    chain_value calls sub c.args.e.now c.in-Chain.chain _ (rows_of c.args.frame.now) caller c.in-Chain.is c.get.ensures ∙ reads calls sub caller)
+
+pub chain_packed-returns : goal.chain_packed-returns
+chain_packed-returns g t c = to_packed (IsOfChain g.row.C.Denot c.args.chain.now (rows_of c.args.frame.now)) number_value c.outer_chain.result _ c.pack.ensures c.outer_chain.ensures
+
+pub outer_chain-returns : goal.outer_chain-returns
+outer_chain-returns g t c = IfSome_then c.steps_number.result c.steps_number.ensures (λ n reads calls sub caller.
+    chain_gives calls sub c.args.chain.now _ _ _ (rows_of c.args.frame.now) caller (search rules) (c.in_ok-first.ensures calls sub caller) (reads calls sub caller))
+
+pub inner_chain-returns : goal.inner_chain-returns
+inner_chain-returns g t c = IfSome_then c.steps_number.result c.steps_number.ensures (λ n reads calls sub caller.
     chain_gives calls sub c.args.chain.now _ _ _ (rows_of c.args.frame.now) caller (search rules) (c.in_ok-first.ensures calls sub caller) (reads calls sub caller))
 
 pub steps_number-loop-step-preserved : goal.steps_number-loop-step-preserved

@@ -1,10 +1,8 @@
-use Rattle.std.proofs.Common.{refl}
-use Rattle.pl_base.specs.declared.operator.Operator.TheVariants.{Compare}
 use Rattle.pl_value.specs.Frames.{rows_of}
 use Rattle.pl_value.proofs.Numbers.{two_gives}
 use Rattle.pl_value.proofs.truth.numbers_compared.Goals as goal
 
 pub returns : goal.returns
 returns g c = λ calls sub caller.
-    two_gives calls sub c.args.pair.now (Compare c.args.comparison) (Compare c.args.comparison) _ _ _ (rows_of c.args.frame.now) caller refl
+    two_gives calls sub c.args.pair.now c.args.operator _ _ _ _ (rows_of c.args.frame.now) caller c.in-Compare.is
     (c.in_ok-a.ensures calls sub caller) (c.in_ok-b.ensures calls sub caller) c.numbers_hold.ensures
