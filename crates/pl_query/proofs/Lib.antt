@@ -9,4 +9,5 @@ mod SourceEquations
 mod Shortened
 mod Chosen
 mod Kept
+mod KeptTables
 mod Whole

@@ -4,3 +4,4 @@ pub mod Query
 pub mod Draws
 pub mod Running
 pub mod Serves
+pub mod Kept

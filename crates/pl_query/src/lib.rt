@@ -1,6 +1,7 @@
 //! The rows of queries: PostgreSQL manual, "Queries".
 #![tactic(auto)]
 
+mod cache;
 mod draws;
 mod ending;
 mod groups;
@@ -8,10 +9,12 @@ mod query;
 mod rows;
 mod running;
 mod sources;
+mod store;
 mod tables;
 mod within;
 
 pub use rows::Rows;
+pub use store::Lender;
 pub use tables::Tables;
 pub use within::{Below, evaluate, run, run_before};
 

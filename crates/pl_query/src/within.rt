@@ -9,8 +9,9 @@ ghost use Rattle.pl_value.specs.Answers.{Reads};
 ghost use Rattle.pl_value.specs.Frames.{rows_of};
 ghost use Rattle.pl_value.specs.Meaning as meaning;
 
-use crate::Tables;
 use crate::query::query_rows;
+use crate::store::Store;
+use crate::{Lender, Tables};
 use pl_base::{Cells, List};
 use pl_resolved::{RExpr, RQuery};
 use pl_value::{Caller, Lent, Operand, Subqueries, Unsettled, value};
@@ -28,7 +29,7 @@ pub struct Below<'a, T, F> {
 impl<
     'a,
     C: Caller,
-    T: Tables,
+    T: Lender,
     F: Fn(
         Global,
         &[RQuery],
@@ -71,7 +72,7 @@ pub fn at_number(queries: &[RQuery], at: usize) -> Option<&RQuery>
 }
 
 /// The rows of the query of this number, if it is below the limit; else there are none.
-pub fn run_before<C: Caller, T: Tables>(
+pub fn run_before<C: Caller, T: Lender>(
     alloc: Global,
     queries: &[RQuery],
     tables: &T,
@@ -99,6 +100,11 @@ pub fn run_before<C: Caller, T: Tables>(
     }
 }
 
+// The queries before this number: no others are inside the one of this number.
+fn before(queries: &[RQuery], at: usize) -> &[RQuery] {
+    &queries[..at.min(queries.len())]
+}
+
 /// The rows of the query of this number, over the rows that stand around it. A call of a routine
 /// may change the caller, and a failure ends the query: its SQLSTATE is that of the expression that
 /// failed, 54000 at the 1,000,001st row that passes WHERE, or that passes ON in joined items in
@@ -116,15 +122,8 @@ pub fn run<C: Caller, T: Tables>(
         (rows_of frame.now) caller.old)
         result caller.new }
 {
-    run_before(
-        alloc,
-        &*queries,
-        &*tables,
-        queries.len(),
-        at,
-        &*frame,
-        caller,
-    )
+    let store = Store::new(alloc, &*tables, before(&*queries, at), frame.len())?;
+    run_before(alloc, &*queries, &store, queries.len(), at, &*frame, caller)
 }
 
 /// The value of an expression over the rows that stand, with the queries inside it.
@@ -140,9 +139,10 @@ pub fn evaluate<'a, C: Caller, T: Tables>(
         e.now (rows_of frame.now) caller.old)
         result caller.new }
 {
+    let store = Store::new(alloc, &*tables, &*queries, frame.len())?;
     let below = Below {
         queries: &*queries,
-        tables: &*tables,
+        tables: &store,
         limit: queries.len(),
         run: run_before,
     };
