@@ -1,1 +1,4 @@
+pub mod Contents
+pub mod Database
+pub mod DatabaseLaws
 pub mod Store

@@ -1,12 +1,13 @@
 //! Sequences of changes and marks.
 
-ghost use Rattle.std.specs.Prelude.{◌≡◌, IsSome, None, true, false};
+ghost use Rattle.std.specs.Prelude.{◌≡◌, IsSome, true};
 ghost use Rattle.pl_tables.specs.Named.{content_named, row_named};
 
 mod random;
 
 use crate::{Mark, Store};
-use pl_base::{Cells, List, Name, Value};
+use pl_base::{Cells, List, Name, Txt, Value};
+use pl_catalog::{Object, Rule, RuleKind, TableDef, Which};
 use pl_tables::TableFail;
 use std::alloc::{AllocError, Global};
 use std::test::Fail;
@@ -32,14 +33,13 @@ fn row(alloc: Global, number: i32) -> Result<Cells, AllocError> {
 }
 
 fn has_table(store: &Store, name: Name) -> bool
-    ensures there { result ≡ true → IsSome (content_named name store.now.tables) }
-    ensures absent { result ≡ false → content_named name store.now.tables ≡ None }
+    ensures { result ≡ true → IsSome (content_named name store.now.now.tables) }
 {
     store.tables().table(name).is_some()
 }
 
 fn has_row(store: &Store, name: Name, id: u64) -> bool
-    ensures there { result ≡ true → IsSome (row_named name id store.now.tables) }
+    ensures there { result ≡ true → IsSome (row_named name id store.now.now.tables) }
 {
     match store.tables().table(name) {
         Some(table) => table.row(id).is_some(),
@@ -49,23 +49,30 @@ fn has_row(store: &Store, name: Name, id: u64) -> bool
 
 // A table whose number is its key.
 fn create(alloc: Global, store: &mut Store, name: Name) -> Result<(), Fail> {
-    if has_table(store, name) {
-        return Err(Fail::new("the table is there"));
-    }
     let mut columns = List::new(alloc);
     columns.push(0)?;
-    let mut keys = Vec::new(alloc);
-    keys.push(columns)?;
-    store.create(name, keys.as_slice())?;
-    Ok(())
+    let mut rules = List::new(alloc);
+    rules.push(Rule {
+        name,
+        kind: RuleKind::Primary(columns),
+    })?;
+    let table = TableDef {
+        name,
+        text: Txt::from_slice(alloc, b"a table")?,
+        columns: List::new(alloc),
+        rules,
+    };
+    match store.create(Object::Table(table)) {
+        Ok(()) => Ok(()),
+        Err(_) => Err(Fail::new("no table is added")),
+    }
 }
 
 fn drop_table(store: &mut Store, name: Name) -> Result<(), Fail> {
-    if !has_table(store, name) {
-        return Err(Fail::new("no table"));
+    match store.drop_object(Which::Table(name)) {
+        Ok(()) => Ok(()),
+        Err(_) => Err(Fail::new("no table is dropped")),
     }
-    store.drop_table(name)?;
-    Ok(())
 }
 
 fn insert(store: &mut Store, name: Name, row: Cells) -> Result<(), Fail> {
@@ -144,6 +151,9 @@ fn rows_of(alloc: Global, store: &Store, name: Name) -> Result<Option<Vec<(u64, 
     let Some(table) = store.tables().table(name) else {
         return Ok(None);
     };
+    if store.catalog().table(name).is_none() {
+        return Err(Fail::new("no such object"));
+    }
     let mut rows = Vec::new(alloc);
     for slot in table.slots() {
         if let Some(row) = &slot.row {
@@ -200,5 +210,44 @@ fn a_roll_back_brings_back_what_was(rt: HostRuntime) -> Result<(), Fail> {
         assert_eq!(rt; found.as_ref().map(|found| found.as_slice()), rows);
         assert_eq!(rt; store.depth(), depth);
     }
+    Ok(())
+}
+
+// Puts a row under an id, as a stored operation says.
+fn put_at(store: &mut Store, name: Name, id: u64, row: Cells) -> Result<bool, Fail> {
+    if id >= 1 << 63 || store.depth() > 0 || !has_table(store, name) {
+        return Err(Fail::new("no row can be put"));
+    }
+    match store.put_at(name, id, row) {
+        Ok(()) => Ok(true),
+        Err(TableFail::Taken(_)) => Ok(false),
+        Err(_) => Err(Fail::new("no row is put")),
+    }
+}
+
+#[test]
+fn stored_rows_are_those_of_the_last_commit(rt: HostRuntime) -> Result<(), Fail> {
+    let alloc = rt.alloc();
+    let Some(name) = Name::of("t") else {
+        return Err(Fail::new("no name"));
+    };
+    let mut store = Store::new(alloc);
+    create(alloc, &mut store, name)?;
+    for (id, number, is_put) in [
+        (5, 50, true),
+        (2, 20, true),
+        (9, 20, false),
+        (5, 51, true),
+        (3, 50, true),
+    ] {
+        assert_eq!(rt; put_at(&mut store, name, id, row(alloc, number)?)?, is_put);
+    }
+    play(alloc, &mut store, name, Step::Insert(60))?;
+    play(alloc, &mut store, name, Step::Reset)?;
+    let found = rows_of(alloc, &store, name)?;
+    assert_eq!(rt;
+        found.as_ref().map(|found| found.as_slice()),
+        Some([(2, 20), (3, 50), (5, 51)].as_slice())
+    );
     Ok(())
 }

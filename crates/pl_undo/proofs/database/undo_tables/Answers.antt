@@ -3,7 +3,7 @@ use Rattle.pl_history.specs.History.{History, back}
 use Rattle.pl_tables.specs.Named.{Named}
 use Rattle.pl_undo.specs.Store.{state_at}
 use Rattle.pl_undo.proofs.Marks.{at_back, length_back}
-use Rattle.pl_undo.proofs.store.undo_down.Goals as goal
+use Rattle.pl_undo.proofs.database.undo_tables.Goals as goal
 
 pub loop-tables-preserved : goal.loop-tables-preserved
 loop-tables-preserved c =

@@ -1,6 +1,6 @@
 use Rattle.std.proofs.Common.{◌≡◌, ◌≤◌, ℕ, length}
 use Rattle.pl_undo.specs.Store.{state_at}
-use Rattle.pl_undo.proofs.store.undo_down.Given as goal
+use Rattle.pl_undo.proofs.database.undo_tables.Given as goal
 
 abbrev pub invariant-loop-tables : goal.invariant-loop-tables
 invariant-loop-tables l = record {

@@ -1,0 +1,35 @@
+use Rattle.std.proofs.Common.{◌∙◌, ap, subst}
+use Rattle.pl_catalog.specs.Refusals.{drop_refusal, Answers}
+use Rattle.pl_undo.specs.Database.{database, without_object, Database}
+use Rattle.pl_undo.specs.DatabaseLaws.{whole_without}
+use Rattle.pl_undo.specs.Store.{Stored}
+use Rattle.pl_undo.proofs.Marks.{kept_last, kept_marks, kept_sound, on_err, on_ok, whole_by}
+use Rattle.pl_undo.proofs.store.Store.drop_object.Goals as goal
+
+pub drop_object-requires : goal.drop_object-requires
+drop_object-requires c = c.self.invariant.now
+
+pub invariant_of-self : goal.invariant_of-self
+invariant_of-self c =
+    let now : Database = database c.self.inside.catalog.objects c.self.inside.tables.current in
+    kept_sound c.self.inside.catalog c.drop_object.new.catalog c.self.inside.tables c.drop_object.new.tables c.drop_object.ensures.objects c.drop_object.ensures.tables c.self.inside.starts.items c.self.invariant
+    (whole_by c.drop_object.result now (without_object c.args.which now) (database c.drop_object.new.catalog.objects c.drop_object.new.tables.current) c.drop_object.ensures.ok c.drop_object.ensures.err c.self.invariant.now (whole_without c.args.which now c.self.invariant.now))
+
+pub returns-clause-answers : goal.returns-clause-answers
+returns-clause-answers c = subst (λ (s : Stored). Answers c.drop_object.result (drop_refusal c.args.which s.now.objects)) c.self.view_is c.drop_object.ensures.answers
+
+pub returns-clause-ok : goal.returns-clause-ok
+returns-clause-ok c =
+    on_ok c.drop_object.result (λ is. is ∙ ap (λ (s : Stored). without_object c.args.which s.now) c.self.view_is) c.drop_object.ensures.ok
+
+pub returns-clause-err : goal.returns-clause-err
+returns-clause-err c = on_err c.drop_object.result (λ is. is ∙ ap (λ (s : Stored). s.now) c.self.view_is) c.drop_object.ensures.err
+
+pub returns-clause-last : goal.returns-clause-last
+returns-clause-last c =
+    kept_last c.self.inside.catalog c.drop_object.new.catalog c.self.inside.tables c.drop_object.new.tables c.drop_object.ensures.objects c.drop_object.ensures.tables ∙ ap (λ (s : Stored). s.last) c.self.view_is
+
+pub returns-clause-marks : goal.returns-clause-marks
+returns-clause-marks c =
+    kept_marks c.self.inside.catalog c.drop_object.new.catalog c.self.inside.tables c.drop_object.new.tables c.drop_object.ensures.objects c.drop_object.ensures.tables c.self.inside.starts.items c.self.invariant
+    ∙ ap (λ (s : Stored). s.marks) c.self.view_is
