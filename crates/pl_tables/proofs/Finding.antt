@@ -12,9 +12,9 @@ use Rattle.pl_tables.specs.declared.tables.Step.{Step}
 use Rattle.pl_tables.specs.declared.tables.Step.TheVariants.{Created}
 use Rattle.pl_tables.specs.declared.table.TableFail.{TableFail}
 use Rattle.pl_tables.specs.declared.table.TableFail.TheVariants as fail
-use Rattle.pl_tables.specs.Rows.{Content, is_full, row_at}
-use Rattle.pl_tables.specs.Named.{Named, named, content_named, is_full_named, next_named, on_table, without_table, row_named, rows_of}
-use Rattle.pl_tables.specs.Places.{content_in, is_full_in, next_in, kept, there, is_at, with_place, undone_place, row_in, gone, undo_step}
+use Rattle.pl_tables.specs.Rows.{Content, has_room, is_full, row_at}
+use Rattle.pl_tables.specs.Named.{Named, named, content_named, has_room_named, is_full_named, next_named, on_table, without_table, row_named, rows_of}
+use Rattle.pl_tables.specs.Places.{content_in, has_room_in, is_full_in, next_in, kept, there, is_at, with_place, undone_place, row_in, gone, undo_step}
 
 no_place : (n m : ℕ) → (let o : Option ℕ = cond (nat_lt n m) (Some n) None in o ≡ None) → m ≤ n
 no_place n m is = grind (arith, nat_tests)
@@ -215,3 +215,28 @@ full_absent name ps is = ap (option_map is_full) (not_there name ps is)
 pub length_past : (ss : List Step) (ps : List Place) → length (seen_as there (history undo_step ss ps)).past ≡ length ss
 length_past [] ps = refl
 length_past (s ∷ ss) ps = ap suc (length_past ss ps)
+
+-- what can be undone isn't seen
+pub there_alike : (f g : Place → Place) → ((p : Place) (l : List Named) → kept (f p).is_there (named (f p).name (f p).table.current) l ≡ kept (g p).is_there (named (g p).name (g p).table.current) l)
+    → (ps : List Place) (at : ℕ) → there (with_place ps at f) ≡ there (with_place ps at g)
+there_alike f g same [] at = refl
+there_alike f g same (p ∷ ps) zero = same p (there ps)
+there_alike f g same (p ∷ ps) (suc at) = ap (kept p.is_there (named p.name p.table.current)) (there_alike f g same ps at)
+
+pub there_put : (name : List ℕ) (change : Content → Content) (ps : List Place) (at : ℕ) → position (is_at name) ps ≡ Some at
+    → there (with_place ps at (λ (p : Place). record { name = p.name; table = record { current = change p.table.current; past = [] }; is_there = p.is_there })) ≡ on_table name change (there ps)
+there_put name change ps at is =
+    there_alike (λ (p : Place). record { name = p.name; table = record { current = change p.table.current; past = [] }; is_there = p.is_there })
+    (λ (p : Place). record { name = p.name; table = changed (change p.table.current) p.table; is_there = p.is_there }) (λ p l. refl) ps at
+    ∙ there_changed name change ps at is
+
+pub there_kept : (ps : List Place) (at : ℕ) (p : Place) (h : History Content) → slice_get ps at ≡ Some p → h.current ≡ p.table.current
+    → there (slice_set ps at (record { name = p.name; table = h; is_there = p.is_there })) ≡ there ps
+there_kept [] at p h has is = refl
+there_kept (r ∷ ps) zero p h has is =
+    let same : r ≡ p = (let o : Some r ≡ Some p = has in cc) in
+    ap (λ (k : Content). kept p.is_there (named p.name k) (there ps)) is ∙ ap (λ (x : Place). kept x.is_there (named x.name x.table.current) (there ps)) (sym same)
+there_kept (r ∷ ps) (suc at) p h has is = ap (kept r.is_there (named r.name r.table.current)) (there_kept ps at p h has is)
+
+pub room_found : (name : List ℕ) (id : ℕ) (ps : List Place) (at : ℕ) (q : Place) → position (is_at name) ps ≡ Some at → slice_get ps at ≡ Some q → has_room_named name id (there ps) ≡ has_room_in id (slice_get ps at)
+room_found name id ps at q is has = ap (option_map (has_room id)) (is_found name ps at q is has) ∙ sym (ap (has_room_in id) has)

@@ -14,7 +14,7 @@ same_id n = grind (arith, nat_tests)
 other_id : (n m : ℕ) → (n ≡ m → ⊥) → nat_eq n m ≡ false
 other_id n m ne = grind (arith, nat_tests, ne)
 
-before_append : (id : ℕ) (row : Option (List Value)) (a b : List (ℕ × List Value)) → before id row (a ++ b) ≡ before id row a ++ b
+pub before_append : (id : ℕ) (row : Option (List Value)) (a b : List (ℕ × List Value)) → before id row (a ++ b) ≡ before id row a ++ b
 before_append id None a b = refl
 before_append id (Some row) a b = refl
 

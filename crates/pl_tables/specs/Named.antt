@@ -3,7 +3,7 @@ use Rattle.std.specs.Prelude.{ℕ, Bool, nat_eq, if◌then◌else◌, List, [], 
 use Rattle.std.specs.Prelude.{option_map}
 use Rattle.std.specs.Cmp.Lexicographic.{pointwise}
 use Rattle.pl_base.specs.declared.value.Value.{Value}
-use Rattle.pl_tables.specs.Rows.{Content, is_full, row_at, Holds}
+use Rattle.pl_tables.specs.Rows.{Content, has_room, is_full, row_at, Holds}
 
 pub record Named : Type 0 where
   pub name : List ℕ
@@ -30,6 +30,10 @@ HoldsIn row id (Some c) = Holds row c id
 -- whether the table of this name is full
 abbrev pub is_full_named : List ℕ → List Named → Option Bool
 is_full_named name ts = option_map is_full (content_named name ts)
+
+-- whether the table of this name has room for a row of this id
+abbrev pub has_room_named : List ℕ → ℕ → List Named → Option Bool
+has_room_named name id ts = option_map (has_room id) (content_named name ts)
 
 abbrev pub rows_of : Option Content → List (ℕ × List Value)
 rows_of None = []

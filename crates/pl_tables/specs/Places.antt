@@ -8,7 +8,7 @@ use Rattle.pl_tables.specs.declared.tables.Place.{Place}
 use Rattle.pl_tables.specs.declared.tables.Step.{Step}
 use Rattle.pl_tables.specs.declared.tables.Step.TheVariants.{Created, Dropped, Changed}
 use Rattle.pl_tables.specs.Named.{Named, named}
-use Rattle.pl_tables.specs.Rows.{Content, inserted, is_full, removed, replaced, row_at}
+use Rattle.pl_tables.specs.Rows.{Content, has_room, inserted, is_full, put_at, raised, removed, replaced, row_at}
 
 abbrev pub kept : Bool → Named → List Named → List Named
 kept is_there t ts = if is_there then t ∷ ts else ts
@@ -40,6 +40,21 @@ abbrev pub with_remove : ℕ → Place → Place
 with_remove id p =
     record { name = p.name; table = changed (removed id p.table.current) p.table; is_there = p.is_there }
 
+-- with nothing that can be undone
+abbrev pub with_put : ℕ → List Value → Place → Place
+with_put id row p = record {
+  name = p.name;
+  table = record { current = put_at id row p.table.current; past = [] };
+  is_there = p.is_there;
+}
+
+abbrev pub with_raised : ℕ → Place → Place
+with_raised next p = record {
+  name = p.name;
+  table = record { current = raised next p.table.current; past = [] };
+  is_there = p.is_there;
+}
+
 -- the row of this id at the place
 abbrev pub row_in : ℕ → Option Place → Option (List Value)
 row_in id None = None
@@ -55,6 +70,10 @@ next_in place = option_map (λ (p : Place). p.table.current.next) place
 
 abbrev pub is_full_in : Option Place → Option Bool
 is_full_in place = option_map (λ (p : Place). is_full p.table.current) place
+
+-- whether it has room for a row of this id
+abbrev pub has_room_in : ℕ → Option Place → Option Bool
+has_room_in id place = option_map (λ (p : Place). has_room id p.table.current) place
 
 abbrev pub settled_place : Place → Place
 settled_place p = record { name = p.name; table = settled p.table; is_there = p.is_there }

@@ -1,7 +1,9 @@
 -- The rows of a table. A row has an id, which no later row gets, unless the row is undone.
-use Rattle.std.specs.Prelude.{◌≡◌, ℕ, Bool, ◌+◌, ◌^◌, ◌||◌, ◌++◌, length, nat_eq, nat_le}
-use Rattle.std.specs.Prelude.{List, [], ◌∷◌, Option, Some, option_and_then, slice_get}
+use Rattle.std.specs.Prelude.{◌≡◌, ℕ, Bool, ◌+◌, ◌^◌, ◌||◌, ◌++◌, length, max, nat_eq, nat_le, nat_lt}
+use Rattle.std.specs.Prelude.{List, [], ◌∷◌, Option, Some, is_some, option_and_then, slice_get}
+use Rattle.std.specs.BTreeMap.{insert_entry}
 use Rattle.std.specs.Map.{lookup, set_value, remove_entry}
+use Rattle.std.specs.Ordering.{nat_cmp}
 use Rattle.pl_base.specs.declared.value.Value.{Value}
 use Rattle.pl_unique.specs.declared.key.Part.{Part}
 use Rattle.pl_unique.specs.Key.{key_of}
@@ -45,6 +47,18 @@ replaced id row c = record { next = c.next; rows = set_value (nat_eq id) c.rows 
 
 abbrev pub removed : ℕ → Content → Content
 removed id c = record { next = c.next; rows = remove_entry (nat_eq id) c.rows; keys = c.keys }
+
+-- the row stands under this id, in the place of the one that did or among the others by its id
+abbrev pub put_at : ℕ → List Value → Content → Content
+put_at id row c = record {
+  next = max c.next (id + 1);
+  rows = insert_entry nat_cmp c.rows id row;
+  keys = c.keys;
+}
+
+-- a row of this id is there, or one more can be
+abbrev pub has_room : ℕ → Content → Bool
+has_room id c = is_some (row_at id c.rows) || nat_lt (length c.rows) 1000000
 
 -- the next new row gets this id
 abbrev pub raised : ℕ → Content → Content

@@ -1,14 +1,16 @@
 //! The rows of a table at their places, and the undoing of changes.
 
-ghost use Rattle.std.specs.Prelude.{◌≡◌, ◌≤◌, ◌<◌, ◌-◌, ◌+◌, [], None, Some, IsSome, false, length};
+ghost use Rattle.std.specs.Prelude.{◌≡◌, ◌≤◌, ◌<◌, ◌-◌, ◌+◌, ◌^◌, [], None, Some, Ok, Err, IsSome};
+ghost use Rattle.std.specs.Prelude.{false, is_some, length};
 ghost use Rattle.std.specs.Prelude.{slice_get, OnOk, OnErr};
 ghost use Rattle.pl_history.specs.History.{back, changed, settled};
 ghost use Rattle.pl_tables.specs.Rows.{is_full, row_at};
 ghost use Rattle.pl_tables.specs.Slots.{before, id_at, live, row_of};
-ghost use Rattle.pl_tables.specs.Undo.{content, kept, with_row_at, with_slot, IsInOrder};
+ghost use Rattle.pl_tables.specs.Undo.{at_rest, content, kept, laid, with_gap, with_row_at};
+ghost use Rattle.pl_tables.specs.Undo.{with_slot, IsGap, IsInOrder, MayLay};
 
 use crate::Slot;
-use crate::slots::{place_of, pop_slot, restore, swap_row};
+use crate::slots::{place_of, pop_slot, push_slot, restore, seek, swap_row};
 use pl_base::Cells;
 use std::alloc::{AllocError, Global};
 use std::marker::Model;
@@ -108,6 +110,27 @@ impl Heap {
         place_of(self.slots.as_slice(), id)
     }
 
+    /// The place of the slot of this id, or else the one at which it would stand.
+    pub(crate) fn seek(&self, id: u64) -> Result<usize, usize>
+        ensures found { (at : _) → result ≡ Ok at → id_at self.now.current.slots at ≡ Some id }
+        ensures none { (at : _) → result ≡ Err at
+            → row_at id (live self.now.current.slots) ≡ None }
+        ensures gap { (at : _) → result ≡ Err at → IsGap id at self.now.current.slots }
+        ensures order { IsInOrder self.now.current }
+    {
+        seek(self.slots.as_slice(), id)
+    }
+
+    /// Whether there is a row of this id.
+    pub(crate) fn has(&self, id: u64) -> bool
+        ensures { result ≡ is_some (row_at id (live self.now.current.slots)) }
+    {
+        match self.place_of(id) {
+            Some(at) => self.slot(at).row.is_some(),
+            None => false,
+        }
+    }
+
     /// Adds a row behind the others, where one can be added.
     pub(crate) fn append(&mut self, row: Cells) -> Result<(), AllocError>
         requires room { is_full (content [] self.old.current) ≡ false }
@@ -138,6 +161,54 @@ impl Heap {
             self.count = count;
         }
         Ok(())
+    }
+
+    /// Puts the row under this id, behind the others or in the slot at this place. No change can be
+    /// undone from now on.
+    pub(crate) fn lay(
+        &mut self,
+        place: Option<usize>,
+        id: u64,
+        row: Cells,
+    ) -> Result<(), AllocError>
+        requires place { MayLay place id self.old.current }
+        requires below { id < 2 ^ 63 }
+        ensures ok { OnOk result (self.new ≡ at_rest (laid place id row self.old.current)) }
+        ensures err { OnErr result (self.new ≡ at_rest self.old.current) }
+        ensures order { IsInOrder self.old.current }
+    {
+        self.changes.clear();
+        match place {
+            None => {
+                self.count = push_slot(&mut self.slots, id, row, self.count)?;
+                self.next = id + 1;
+            }
+            Some(at) => self.count = restore(&mut self.slots, at, row, self.count),
+        }
+        Ok(())
+    }
+
+    /// Makes a slot of this id without a row, at this place. No change can be undone from now on.
+    pub(crate) fn open(&mut self, at: usize, id: u64) -> Result<(), AllocError>
+        requires gap { IsGap id at self.old.current.slots }
+        requires below { id < self.old.current.next }
+        ensures ok { OnOk result (self.new ≡ at_rest (with_gap at id self.old.current)) }
+        ensures err { OnErr result (self.new ≡ at_rest self.old.current) }
+    {
+        self.changes.clear();
+        match self.slots.insert(at, Slot { id, row: None }) {
+            Ok(()) => Ok(()),
+            Err(_) => Err(AllocError),
+        }
+    }
+
+    /// The next new row gets this id. No change can be undone from now on.
+    pub(crate) fn raise(&mut self, next: u64)
+        requires { self.old.current.next ≤ next }
+        ensures { self.new ≡ at_rest (kept self.old.current.slots next) }
+    {
+        self.changes.clear();
+        self.next = next;
     }
 
     /// Undoes the newest change, if there is one.

@@ -2,6 +2,7 @@
 #![tactic(auto)]
 
 mod heap;
+mod putting;
 mod slots;
 mod table;
 mod tables;

@@ -1,10 +1,13 @@
 //! Rows in the order of their ids, with the places of those that were removed.
 
-ghost use Rattle.std.specs.Prelude.{◌≡◌, ◌<◌, ◌≤◌, ◌-◌, [], Some, None, length, take};
+ghost use Rattle.std.specs.Prelude.{◌≡◌, ◌<◌, ◌≤◌, ◌-◌, ◌++◌, ◌∷◌, [], Some, None, Ok, Err, IfOk};
+ghost use Rattle.std.specs.Prelude.{length, take, OnOk, OnErr};
 ghost use Rattle.pl_tables.specs.Rows.{row_at};
+ghost use Rattle.pl_tables.specs.Undo.{IsGap};
 ghost use Rattle.pl_tables.specs.Slots.{before, id_at, live, row_of, with_row, IsRising};
 
 use pl_base::Cells;
+use std::alloc::AllocError;
 use std::mem;
 
 /// A row, or where one was.
@@ -15,11 +18,12 @@ pub struct Slot {
     pub row: Option<Cells>,
 }
 
-/// The place of the slot of this id. None where there is none.
-pub(crate) fn place_of(slots: &[Slot], id: u64) -> Option<usize>
+/// The place of the slot of this id, or else the one at which it would stand.
+pub(crate) fn seek(slots: &[Slot], id: u64) -> Result<usize, usize>
     requires { IsRising slots.now }
-    ensures some { (at : _) → result ≡ Some at → id_at slots.now at ≡ Some id }
-    ensures none { result ≡ None → row_at id (live slots.now) ≡ None }
+    ensures found { (at : _) → result ≡ Ok at → id_at slots.now at ≡ Some id }
+    ensures none { (at : _) → result ≡ Err at → row_at id (live slots.now) ≡ None }
+    ensures gap { (at : _) → result ≡ Err at → IsGap id at slots.now }
 {
     let mut low = 0;
     let mut high = slots.len();
@@ -27,7 +31,7 @@ pub(crate) fn place_of(slots: &[Slot], id: u64) -> Option<usize>
         let middle = low + (high - low) / 2;
         let found = slots[middle].id;
         if found == id {
-            return Some(middle);
+            return Ok(middle);
         }
         if found < id {
             low = middle + 1;
@@ -35,7 +39,19 @@ pub(crate) fn place_of(slots: &[Slot], id: u64) -> Option<usize>
             high = middle;
         }
     }
-    None
+    Err(low)
+}
+
+/// The place of the slot of this id. None where there is none.
+pub(crate) fn place_of(slots: &[Slot], id: u64) -> Option<usize>
+    requires { IsRising slots.now }
+    ensures some { (at : _) → result ≡ Some at → id_at slots.now at ≡ Some id }
+    ensures none { result ≡ None → row_at id (live slots.now) ≡ None }
+{
+    match seek(slots, id) {
+        Ok(at) => Some(at),
+        Err(_) => None,
+    }
 }
 
 /// Gives the slot at this place another row, or none, and answers the one that it had.
@@ -45,6 +61,24 @@ pub(crate) fn swap_row(slots: &mut Vec<Slot>, at: usize, row: Option<Cells>) -> 
     ensures row { result ≡ row_of slots.old.items at }
 {
     mem::replace(&mut slots[at].row, row)
+}
+
+/// Puts a slot of this id behind the others, and answers how many rows there are then, of this many
+/// before.
+pub(crate) fn push_slot(
+    slots: &mut Vec<Slot>,
+    id: u64,
+    row: Cells,
+    count: usize,
+) -> Result<usize, AllocError>
+    requires { count ≡ length (live slots.old.items) }
+    ensures ok { OnOk result (slots.new.items
+        ≡ slots.old.items ++ record { id = id; row = Some row } ∷ []) }
+    ensures count { IfOk result (λ count. count ≡ length (live slots.new.items)) }
+    ensures err { OnErr result (slots.new.items ≡ slots.old.items) }
+{
+    slots.push(Slot { id, row: Some(row) })?;
+    Ok(count + 1)
 }
 
 /// Takes the last slot away, if there is one, and answers how many rows are left of this many.

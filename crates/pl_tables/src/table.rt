@@ -2,22 +2,23 @@
 
 ghost use Rattle.std.specs.Prelude.{◌≡◌, ◌≢◌, ◌<◌, ◌↔◌, [], Some, Err, IsTrue, IsSome, length};
 ghost use Rattle.std.specs.Prelude.{slice_get, IfOk, OnOk, OnErr, option_and_then, option_copied};
-ghost use Rattle.std.specs.Prelude.{option_map};
+ghost use Rattle.std.specs.Prelude.{◌≤◌, ◌^◌, false, option_map};
 ghost use Rattle.pl_history.specs.History.{back, changed, settled};
-ghost use Rattle.pl_tables.specs.Rows.{inserted, is_full, key_at, no_rows, removed, replaced};
-ghost use Rattle.pl_tables.specs.Rows.{row_at, Holds};
+ghost use Rattle.pl_tables.specs.Rows.{has_room, inserted, is_full, key_at, no_rows, put_at};
+ghost use Rattle.pl_tables.specs.Rows.{raised, removed, replaced, row_at, Holds};
 ghost use Rattle.pl_tables.specs.Slots.{id_at, live};
 ghost use Rattle.pl_tables.specs.Undo.{IsInOrder};
 
 use crate::Slot;
 use crate::heap::Heap;
+use crate::putting::put_row;
 use pl_base::{Cells, List};
 use pl_unique::{Key, KeyFail, Part, change_keys, forget_keys, new_keys, undo_keys};
 use std::alloc::{AllocError, Global};
 use std::marker::Model;
 
 /// The most rows that a table has.
-const MOST_ROWS: usize = 1_000_000;
+pub(crate) const MOST_ROWS: usize = 1_000_000;
 
 /// Each row id is below this.
 const ID_BOUND: u64 = 1 << 63;
@@ -196,6 +197,43 @@ impl Table {
         }
     }
 
+    /// Puts the row under this id, in the place of the one that is there or among the others, as a
+    /// stored operation says. Full where none is there and 1,000,000 others are, and else Taken
+    /// where another row has a key of it. No change can be undone from now on.
+    pub fn put_at(&mut self, id: u64, row: Cells) -> Result<(), TableFail>
+        requires below { id < 2 ^ 63 }
+        ensures full { (result ≡ Err TableFail.Full) ↔ (has_room id self.old.current ≡ false) }
+        ensures taken { (holder : _) → result ≡ Err (TableFail.Taken holder)
+            → (holder ≢ id) × Holds row self.old.current holder }
+        ensures free { OnOk result ((holder : _) → Holds row self.old.current holder
+            → holder ≡ id) }
+        ensures ok { OnOk result (self.new.current ≡ put_at id row self.old.current) }
+        ensures err { OnErr result (self.new.current ≡ self.old.current) }
+        ensures past { self.new.past ≡ [] }
+    {
+        self.heap.forget();
+        forget_keys(&mut self.keys);
+        put_row(self.alloc, &mut self.heap, &mut self.keys, id, row)
+    }
+
+    /// The next new row gets this id, as a stored operation says. No change can be undone from now
+    /// on.
+    pub fn raise_next(&mut self, next: u64)
+        requires { self.old.current.next ≤ next }
+        ensures current { self.new.current ≡ raised next self.old.current }
+        ensures past { self.new.past ≡ [] }
+    {
+        self.heap.raise(next);
+        forget_keys(&mut self.keys);
+    }
+
+    /// The id that the next new row gets.
+    pub fn next_id(&self) -> u64
+        ensures { result ≡ self.now.current.next }
+    {
+        self.heap.next()
+    }
+
     /// Takes the row of this id out.
     pub fn remove(&mut self, id: u64) -> Result<(), AllocError>
         requires there { IsSome (row_at id self.old.current.rows) }
@@ -235,7 +273,7 @@ impl Table {
 }
 
 // Why a table isn't changed, where keys aren't.
-fn refusal(heap: &Heap, fail: KeyFail) -> TableFail
+pub(crate) fn refusal(heap: &Heap, fail: KeyFail) -> TableFail
     requires { (at : _) → fail ≡ KeyFail.Taken at → at < length heap.now.current.slots }
     ensures taken { (at : _) → fail ≡ KeyFail.Taken at
         → option_map TableFail.Taken (id_at heap.now.current.slots at) ≡ Some result }

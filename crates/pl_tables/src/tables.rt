@@ -1,16 +1,16 @@
 //! Tables by their names.
 
 ghost use Rattle.std.specs.Prelude.{◌≡◌, ◌≢◌, ◌<◌, ◌-◌, ◌∷◌, ◌++◌, ◌↔◌, [], None, IsSome, true};
-ghost use Rattle.std.specs.Prelude.{false};
+ghost use Rattle.std.specs.Prelude.{◌≤◌, ◌^◌, false};
 ghost use Rattle.std.specs.Prelude.{length, option_map, slice_get, take, Err, IfOk, OnOk, OnErr, Some};
 ghost use Rattle.std.specs.List.{position};
-ghost use Rattle.std.specs.Option.{option_copied};
+ghost use Rattle.std.specs.Option.{option_copied, ForSome};
 ghost use Rattle.pl_history.specs.History.{back, changed, settled};
-ghost use Rattle.pl_tables.specs.Rows.{inserted, no_rows, removed, replaced};
+ghost use Rattle.pl_tables.specs.Rows.{inserted, no_rows, put_at, raised, removed, replaced};
 ghost use Rattle.pl_tables.specs.Named.{content_named, is_full_named, named, next_named, on_table};
-ghost use Rattle.pl_tables.specs.Named.{row_named, without_table, HoldsIn};
+ghost use Rattle.pl_tables.specs.Named.{has_room_named, row_named, without_table, HoldsIn};
 ghost use Rattle.pl_tables.specs.Places.{content_in, gone, is_at, is_full_in, next_in, row_in};
-ghost use Rattle.pl_tables.specs.Places.{undone_place, with_insert};
+ghost use Rattle.pl_tables.specs.Places.{has_room_in, undone_place, with_insert, with_put, with_raised};
 ghost use Rattle.pl_tables.specs.Places.{settled_place, there, with_place, with_remove, with_replace};
 
 use crate::{Table, TableFail};
@@ -189,6 +189,45 @@ impl Tables {
         }
     }
 
+    /// Puts the row under this id into the table of this name, in the place of the one that is
+    /// there or among the others, as a stored operation says. Full where none is there and
+    /// 1,000,000 others are, and else Taken where another row has a key of it. No change can be
+    /// undone from now on.
+    pub fn put_at(&mut self, name: Name, id: u64, row: Cells) -> Result<(), TableFail>
+        requires there { IsSome (content_named name self.old.current) }
+        requires below { id < 2 ^ 63 }
+        ensures full { (result ≡ Err TableFail.Full)
+            ↔ (has_room_named name id self.old.current ≡ Some false) }
+        ensures taken { (holder : _) → result ≡ Err (TableFail.Taken holder)
+            → (holder ≢ id) × HoldsIn row holder (content_named name self.old.current) }
+        ensures free { OnOk result ((holder : _)
+            → HoldsIn row holder (content_named name self.old.current) → holder ≡ id) }
+        ensures ok { OnOk result (self.new.current
+            ≡ on_table name (put_at id row) self.old.current) }
+        ensures err { OnErr result (self.new.current ≡ self.old.current) }
+        ensures past { self.new.past ≡ [] }
+    {
+        settle(&mut self.places, &mut self.steps, self.alloc);
+        match place_of(self.places.as_slice(), &name) {
+            None => Err(TableFail::Memory),
+            Some(at) => put_at_place(&mut self.places, at, id, row),
+        }
+    }
+
+    /// The next new row of the table of this name gets this id, as a stored operation says. No
+    /// change can be undone from now on.
+    pub fn raise_next(&mut self, name: Name, next: u64)
+        requires there { IsSome (content_named name self.old.current) }
+        requires next { ForSome (next_named name self.old.current) (λ n. n ≤ next) }
+        ensures current { self.new.current ≡ on_table name (raised next) self.old.current }
+        ensures past { self.new.past ≡ [] }
+    {
+        settle(&mut self.places, &mut self.steps, self.alloc);
+        if let Some(at) = place_of(self.places.as_slice(), &name) {
+            raise_at(&mut self.places, at, next);
+        }
+    }
+
     /// Takes the row of this id out of the table of this name.
     pub fn remove(&mut self, name: Name, id: u64) -> Result<(), AllocError>
         requires there { IsSome (row_named name id self.old.current) }
@@ -309,6 +348,33 @@ fn replace_at(places: &mut Vec<Place>, at: usize, id: u64, row: Cells) -> Result
         Ok(()) => Ok(()),
         Err(fail) => Err(fail),
     }
+}
+
+fn put_at_place(places: &mut Vec<Place>, at: usize, id: u64, row: Cells) -> Result<(), TableFail>
+    requires place { at < length places.old.items }
+    requires below { id < 2 ^ 63 }
+    ensures full { (result ≡ Err TableFail.Full)
+        ↔ (has_room_in id (slice_get places.old.items at) ≡ Some false) }
+    ensures taken { (holder : _) → result ≡ Err (TableFail.Taken holder)
+        → (holder ≢ id) × HoldsIn row holder (content_in (slice_get places.old.items at)) }
+    ensures free { OnOk result ((holder : _)
+        → HoldsIn row holder (content_in (slice_get places.old.items at)) → holder ≡ id) }
+    ensures ok { OnOk result (places.new.items
+        ≡ with_place places.old.items at (with_put id row)) }
+    ensures err { OnErr result (there places.new.items ≡ there places.old.items) }
+{
+    match places[at].table.put_at(id, row) {
+        Ok(()) => Ok(()),
+        Err(fail) => Err(fail),
+    }
+}
+
+fn raise_at(places: &mut Vec<Place>, at: usize, next: u64)
+    requires place { at < length places.old.items }
+    requires next { ForSome (next_in (slice_get places.old.items at)) (λ n. n ≤ next) }
+    ensures { places.new.items ≡ with_place places.old.items at (with_raised next) }
+{
+    places[at].table.raise_next(next);
 }
 
 fn remove_at(places: &mut Vec<Place>, at: usize, id: u64) -> Result<(), AllocError>

@@ -175,3 +175,40 @@ fn tables_change_by_their_names(rt: HostRuntime) -> Result<(), Fail> {
     assert_eq!(rt; tables.changes(), 0);
     Ok(())
 }
+
+// Puts the number under this id, and says whether it stands there then.
+fn put(alloc: Global, table: &mut Table, id: u64, number: i32) -> Result<bool, Fail> {
+    if id >= 1 << 63 {
+        return Ok(false);
+    }
+    match table.put_at(id, row(alloc, number)?) {
+        Ok(()) => Ok(number_of(table, id) == Some(number)),
+        Err(TableFail::Taken(_)) => Ok(false),
+        Err(_) => Err(Fail::new("no row is put")),
+    }
+}
+
+#[test]
+fn rows_are_put_under_their_ids(rt: HostRuntime) -> Result<(), Fail> {
+    let alloc = rt.alloc();
+    let keys = first_column(alloc)?;
+    let mut table = Table::new(alloc, keys.as_slice())?;
+    assert!(rt; put(alloc, &mut table, 5, 50)?);
+    assert!(rt; put(alloc, &mut table, 2, 20)?);
+    assert!(rt; put(alloc, &mut table, 9, 90)?);
+    assert!(rt; put(alloc, &mut table, 7, 70)?);
+    assert!(rt; !put(alloc, &mut table, 3, 90)?);
+    assert!(rt; put(alloc, &mut table, 3, 30)?);
+    assert!(rt; put(alloc, &mut table, 5, 51)?);
+    assert_eq!(rt; found(alloc, &table, 50)?, None);
+    assert_eq!(rt; found(alloc, &table, 51)?, Some(5));
+    assert_eq!(rt; found(alloc, &table, 70)?, Some(7));
+    assert_eq!(rt; table.count(), 5);
+    assert_eq!(rt; table.next_id(), 10);
+    if table.next_id() <= 20 {
+        table.raise_next(20);
+    }
+    table.undo();
+    assert_eq!(rt; table.insert(row(alloc, 200)?).unwrap_or(0), 20);
+    Ok(())
+}
