@@ -1,7 +1,5 @@
 -- A definition of a script means by its own text what it means there.
 use Rattle.std.proofs.Common.{◌≡◌, ℕ, List, [], ◌∷◌, ◌++◌, cond, Bool, true, false, Option, Some, None, Result, Ok, Err, IfOk, map, refl, sym, ◌∙◌, ap, subst, append-nil}
-use Rattle.std.specs.Str.{bytes_eq}
-use Rattle.std.proofs.lemmas.Slice.Eq.{bytes_eq-Decides}
 use Rattle.pl_grammar.specs.Deep.{IsShallow}
 use Rattle.pl_base.specs.declared.memory.Memory.{Memory}
 use Rattle.pl_lex.specs.Characters.{Text}
@@ -21,13 +19,12 @@ use Rattle.pl_sql_parse.specs.Spells.{SpellsCommand, command, definition}
 use Rattle.pl_sql_parse.specs.Grammar.{rule}
 use Rattle.pl_sql_parse.specs.Grammar as part
 use Rattle.pl_codec.specs.Spelling.{is_define_text}
-use Rattle.pl_meaning.specs.Form.{table_of, table_by}
+use Rattle.pl_meaning.specs.Form.{stored_by}
 use Rattle.pl_meaning.specs.Reading.{IsRead, IsPieceRead, IsOutcomeRead, IsCommandRead, left_out, too_deep, no_command, a_command}
 use Rattle.pl_meaning.specs.Computed.{CommandMeansAlike, MeansAlike, reading_of, defined_by, definition_in}
-use Rattle.pl_meaning.specs.declared.form.IntegerTable.{IntegerTable}
 use Rattle.pl_meaning.specs.declared.reading.Reading.{Reading}
 use Rattle.pl_meaning.specs.declared.reading.Reading.TheVariants.{Nothing, Refused, Spelled}
-use Rattle.pl_meaning.proofs.Definitions.{of_tokens, too_long}
+use Rattle.pl_meaning.proofs.Definitions.{bytes_same, of_tokens, too_long}
 use Rattle.pl_meaning.proofs.Readings.{read_only}
 use Rattle.pl_meaning.proofs.Plain.{defines, defines_nothing}
 
@@ -81,11 +78,8 @@ by_itself text t ts x source whole d =
 
 -- ---- a definition of a script
 
-bytes_same : (text : Text) → bytes_eq text text ≡ true
-bytes_same text = (bytes_eq-Decides text text).1 refl
-
 of_piece : (text : Text) (ts : List Token) (x : Definition) (source : Text) → Lexemes (by_themselves ts) (slice_of text ts) → slice_of (slice_of text ts) (by_themselves ts) ≡ slice_of text ts
-    → IsRead text ts (Spelled (c.Define x source)) → definition_in source ≡ table_by x source
+    → IsRead text ts (Spelled (c.Define x source)) → definition_in source ≡ stored_by x source
 of_piece text [] x source lexed whole read = absurd (cc read)
 of_piece text (t ∷ ts) x source lexed whole read = by_test (is_define_text source) refl
   where
@@ -101,17 +95,17 @@ of_piece text (t ∷ ts) x source lexed whole read = by_test (is_define_text sou
     reading : Spelled (c.Define x source) ≡ reading_of source (by_themselves all)
     reading = read_only source (by_themselves all) (Spelled (c.Define x source)) (by_itself text t ts x source whole d)
 
-    by_test : (b : Bool) → is_define_text source ≡ b → definition_in source ≡ cond b (table_of x) None
+    by_test : (b : Bool) → is_define_text source ≡ b → definition_in source ≡ cond b (Some x) None
     by_test true fits =
         sym (of_tokens source (by_themselves all) fits (subst (λ (s : Text). Lexemes (by_themselves all) s) (sym is) lexed))
         ∙ ap (λ (r : Reading). defined_by source r) (sym reading)
-        ∙ ap (λ (b : Bool). let o : Option IntegerTable = cond b (table_of x) None in o) (bytes_same source)
+        ∙ ap (λ (b : Bool). let o : Option Definition = cond b (Some x) None in o) (bytes_same source)
     by_test false fits = sym (too_long source fits)
 
-pub means_alike : (text : Text) (from : ℕ) (p : Piece) (x : Definition) (source : Text) → IsNext text from (Some p) → IsPieceRead text p (Spelled (c.Define x source)) → definition_in source ≡ table_by x source
+pub means_alike : (text : Text) (from : ℕ) (p : Piece) (x : Definition) (source : Text) → IsNext text from (Some p) → IsPieceRead text p (Spelled (c.Define x source)) → definition_in source ≡ stored_by x source
 means_alike text from p x source next read = by_tokens p.tokens refl read
   where
-    by_tokens : (o : Result (List Token) Bad) → p.tokens ≡ o → IsOutcomeRead text o (Spelled (c.Define x source)) → definition_in source ≡ table_by x source
+    by_tokens : (o : Result (List Token) Bad) → p.tokens ≡ o → IsOutcomeRead text o (Spelled (c.Define x source)) → definition_in source ≡ stored_by x source
     by_tokens (Err bad) e r = absurd (cc r)
     by_tokens (Ok ts) e r =
         let at : p.tokens ≡ Ok ([] ++ (ts ++ [])) = e ∙ ap (λ (us : List Token). let o : Result (List Token) Bad = Ok us in o) (sym (append-nil ts)) in

@@ -13,7 +13,7 @@ use Rattle.std.specs.Cmp.Lexicographic.{pointwise}
 use Rattle.pl_base.specs.declared.operation.Op.{Op}
 use Rattle.pl_base.specs.declared.operation.Op.TheVariants.{Define, Put, Remove, Next}
 use Rattle.pl_base.specs.declared.value.Value.{Value}
-use Rattle.pl_meaning.specs.Computed.{definition_in}
+use Rattle.pl_meaning.specs.Computed.{table_in}
 use Rattle.pl_meaning.specs.declared.form.IntegerTable.{IntegerTable}
 use Rattle.pl_meaning.specs.Database.{Database, Column, Object, TableObject, Table, MOST_ROWS, empty_table, fits, has, has_row, in_object, in_table, integer_column, is_named, put_in, raise_in, remove_in}
 use Rattle.pl_meaning.specs.Operation.{apply, apply_all, define_by}
@@ -221,7 +221,7 @@ define_keeps (Some made) db db' is sound = by_test (has made.table db) refl is
     by_test false none h = subst (λ (d : Database). IsSound d) (some_is (db ++ empty_table made.table (integer_column made.column) ∷ []) db' h) (define_more [] db made.table (integer_column made.column) none sound)
 
 pub apply_keeps : (op : Op) (db db' : Database) → apply op db ≡ Some db' → IsSound db → IsSound db'
-apply_keeps (Define text) db db' is sound = define_keeps (definition_in text) db db' is sound
+apply_keeps (Define text) db db' is sound = define_keeps (table_in text) db db' is sound
 apply_keeps (Put table id row) db db' is sound = by_tests (nat_lt 0 id) (nat_lt id (2 ^ 63)) refl refl is
   where
     below : (n m : ℕ) → nat_lt n m ≡ true → n < m

@@ -1,22 +1,20 @@
 -- The operations of a whole database have a spelling.
-use Rattle.std.proofs.Common.{◌≡◌, ◌<◌, ◌≤◌, ◌^◌, ◌&&◌, ℕ, ◌+◌, List, [], ◌∷◌, ◌++◌, length, cond, nat_lt, Bool, true, false, Option, Some, None, refl, ◌∙◌, ap, subst, arith}
+use Rattle.std.proofs.Common.{◌≡◌, ◌<◌, ◌≤◌, ◌^◌, ◌&&◌, ℕ, ◌+◌, List, [], ◌∷◌, ◌++◌, length, cond, nat_lt, Bool, true, false, Option, Some, None, option_and_then, refl, ◌∙◌, ap, subst, arith}
 use Rattle.std.specs.List.{list_all}
 use Rattle.std.proofs.lemmas.Bool.Decides.{nat_tests}
 use Rattle.pl_base.specs.declared.operation.Op.{Op}
-use Rattle.pl_base.specs.declared.operation.Op.TheVariants.{Define, Next}
+use Rattle.pl_base.specs.declared.operation.Op.TheVariants.{Next}
 use Rattle.pl_base.specs.declared.value.Value.{Value}
 use Rattle.pl_base.specs.declared.value.Value.TheVariants as value
-use Rattle.pl_codec.specs.Spelling.{are_stored, is_stored_op, is_stored_value, is_table_name}
+use Rattle.pl_codec.specs.Spelling.{are_stored, is_define_text, is_stored_op, is_stored_value, is_table_name}
 use Rattle.pl_lex.specs.Characters.{Text}
-use Rattle.pl_tree.specs.declared.command.Command.{Command}
-use Rattle.pl_tree.specs.declared.command.Command.TheVariants as command
 use Rattle.pl_tree.specs.declared.command.Definition.{Definition}
 use Rattle.pl_tree.specs.declared.command.Definition.TheVariants as definition
 use Rattle.pl_tree.specs.declared.command.Element.{Element}
 use Rattle.pl_tree.specs.declared.command.Element.TheVariants as element
-use Rattle.pl_meaning.specs.Computed.{definition_in}
+use Rattle.pl_meaning.specs.Computed.{definition_in, table_in}
 use Rattle.pl_meaning.specs.Database.{Database, Column, TableObject, Table, fits, integer_column}
-use Rattle.pl_meaning.specs.Form.{column_of, is_empty, is_integer, one_column, table_in, table_of}
+use Rattle.pl_meaning.specs.Form.{column_of, is_empty, is_integer, one_column, table_of}
 use Rattle.pl_meaning.specs.Whole.{AreRows, AreSound, AreTexts, IsSound, IsSoundTable, IsTextOf, row_ops, table_ops, whole}
 use Rattle.pl_meaning.specs.declared.form.IntegerTable.{IntegerTable}
 use Rattle.pl_meaning.proofs.Definitions.{found}
@@ -59,24 +57,19 @@ named_definition (definition.DropTable if_exists name) made h = absurd (none_som
 named_definition (definition.DropRoutine kind if_exists name types) made h = absurd (none_some made h)
 named_definition (definition.DropTrigger if_exists name table) made h = absurd (none_some made h)
 
-named_command : (x : Command) (made : IntegerTable) → table_in x ≡ Some made → IsNamed made
-named_command (command.Define d source) made h = named_definition d made h
-named_command (command.Query query) made h = absurd (none_some made h)
-named_command (command.Insert insert) made h = absurd (none_some made h)
-named_command (command.Update update) made h = absurd (none_some made h)
-named_command (command.Delete delete) made h = absurd (none_some made h)
-named_command (command.Do language body) made h = absurd (none_some made h)
-named_command (command.Call name arguments) made h = absurd (none_some made h)
-named_command command.Begin made h = absurd (none_some made h)
-named_command command.StartTransaction made h = absurd (none_some made h)
-named_command command.Commit made h = absurd (none_some made h)
-named_command command.Rollback made h = absurd (none_some made h)
-named_command (command.Savepoint name) made h = absurd (none_some made h)
-named_command (command.Release name) made h = absurd (none_some made h)
-named_command (command.RollbackTo name) made h = absurd (none_some made h)
+named : (text : Text) (made : IntegerTable) → table_in text ≡ Some made → IsNamed made
+named text made is = by_definition (definition_in text) is
+  where
+    by_definition : (o : Option Definition) → option_and_then table_of o ≡ Some made → IsNamed made
+    by_definition None h = absurd (none_some made h)
+    by_definition (Some d) h = named_definition d made h
 
-named : (text : Text) (made : IntegerTable) → definition_in text ≡ Some made → IsNamed made
-named text made is = let d = found text made is in named_command d.command made d.made
+pub text_fits : (text : Text) (made : IntegerTable) → table_in text ≡ Some made → is_define_text text ≡ true
+text_fits text made is = by_definition (definition_in text) refl is
+  where
+    by_definition : (o : Option Definition) → definition_in text ≡ o → option_and_then table_of o ≡ Some made → is_define_text text ≡ true
+    by_definition None e h = absurd (none_some made h)
+    by_definition (Some d) e h = (found text d e).fits
 
 -- ---- its rows
 
@@ -141,10 +134,9 @@ module _ (name column : List ℕ) (is_named : is_table_name name ≡ true) where
 
 table_stored : (text : List ℕ) (t : Table) → IsTextOf text t → IsSoundTable t → are_stored (table_ops text t) ≡ true
 table_stored text t is sound =
-    let d = found text is.made is.defines in
     let is_named : is_table_name t.name ≡ true = ap is_table_name is.name ∙ named text is.made is.defines in
     let rows = subst (λ (columns : List Column). AreRows columns 1 t.rows t.next) is.columns sound.rows in
-    both _ _ d.fits (stored-append (row_ops t.name t.rows) (Next t.name t.next ∷ []) (rows_stored t.name is.made.column is_named 1 t.rows t.next (omega arith) sound.next rows) (both _ _ is_named refl))
+    both _ _ (text_fits text is.made is.defines) (stored-append (row_ops t.name t.rows) (Next t.name t.next ∷ []) (rows_stored t.name is.made.column is_named 1 t.rows t.next (omega arith) sound.next rows) (both _ _ is_named refl))
 
 pub whole_stored : (texts : List (List ℕ)) (before db : Database) → AreTexts texts db → AreSound before db → are_stored (whole texts db) ≡ true
 whole_stored [] before [] are sound = refl

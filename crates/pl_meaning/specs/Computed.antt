@@ -1,7 +1,7 @@
 -- Readings, definitions and the pieces of a script, computed. What has to be believed is the relations: a piece's reading is the one of
--- `IsPieceRead` by the law `one_reading`, a text's table the one of `Defines` by `one_definition`, and a script's readings those of
+-- `IsPieceRead` by the law `one_reading`, a text's definition the one of `Defines` by `one_definition`, and a script's readings those of
 -- `Readings` by `one_trace`.
-use Rattle.std.specs.Prelude.{◌≡◌, ◌||◌, List, [], ◌∷◌, length, map, Bool, false, Option, Some, None, Result, Ok, Err, nat_lt, if◌then◌else◌}
+use Rattle.std.specs.Prelude.{◌≡◌, ◌||◌, List, [], ◌∷◌, length, map, Bool, false, Option, Some, None, Result, Ok, Err, nat_lt, option_and_then, if◌then◌else◌}
 use Rattle.pl_base.specs.States.{SYNTAX_ERROR, FEATURE_NOT_SUPPORTED, STATEMENT_TOO_COMPLEX}
 use Rattle.pl_codec.specs.Spelling.{is_define_text}
 use Rattle.pl_lex.specs.Characters.{Text}
@@ -12,11 +12,12 @@ use Rattle.pl_lex.specs.declared.token.Piece.{Piece}
 use Rattle.pl_lex.specs.declared.token.Token.{Token}
 use Rattle.pl_tree.specs.declared.command.Command.{Command}
 use Rattle.pl_tree.specs.declared.command.Command.TheVariants as command
+use Rattle.pl_tree.specs.declared.command.Definition.{Definition}
 use Rattle.pl_grammar.specs.Marks.{Tokens, kinds}
 use Rattle.pl_grammar.specs.Deep.{State as Parts, step, start, max_parts}
 use Rattle.pl_sql_parse.specs.LeftOut.{is_left_out}
 use Rattle.pl_sql_parse.specs.Computed.{command_in}
-use Rattle.pl_meaning.specs.Form.{table_by, table_in, is_text_of}
+use Rattle.pl_meaning.specs.Form.{definition_of, stored_by, table_of, is_text_of}
 use Rattle.pl_meaning.specs.declared.form.IntegerTable.{IntegerTable}
 use Rattle.pl_meaning.specs.declared.reading.Reading.{Reading}
 use Rattle.pl_meaning.specs.declared.reading.Reading.TheVariants.{Nothing, Refused, Spelled}
@@ -47,24 +48,28 @@ outcome_reading text (Ok tokens) = reading_of text tokens
 abbrev pub piece_reading : Text → Piece → Reading
 piece_reading text piece = outcome_reading text piece.tokens
 
--- ---- the table that a text defines
+-- ---- the definition that a text is
 
-abbrev pub defined_by : Text → Reading → Option IntegerTable
-defined_by text (Spelled command) = if is_text_of text command then table_in command else None
+abbrev pub defined_by : Text → Reading → Option Definition
+defined_by text (Spelled command) = if is_text_of text command then definition_of command else None
 defined_by text reading = None
 
-abbrev pub defined_unless : Option Bad → Text → List Token → Option IntegerTable
+abbrev pub defined_unless : Option Bad → Text → List Token → Option Definition
 defined_unless None text tokens = defined_by text (reading_of text tokens)
 defined_unless (Some bad) text tokens = None
 
-abbrev pub defined_in : Text → List Lexeme → Option IntegerTable
+abbrev pub defined_in : Text → List Lexeme → Option Definition
 defined_in text all = defined_unless (first_bad all) text (tokens_of all)
 
-unfoldable pub definition_in : Text → Option IntegerTable
+unfoldable pub definition_in : Text → Option Definition
 definition_in text = if is_define_text text then defined_in text (lexemes 0 text) else None
 
+-- the table that it makes
+abbrev pub table_in : Text → Option IntegerTable
+table_in text = option_and_then table_of (definition_in text)
+
 abbrev pub CommandMeansAlike : Command → Type 0
-CommandMeansAlike (command.Define x source) = definition_in source ≡ table_by x source
+CommandMeansAlike (command.Define x source) = definition_in source ≡ stored_by x source
 CommandMeansAlike (command.Query query) = Unit {0}
 CommandMeansAlike (command.Insert insert) = Unit {0}
 CommandMeansAlike (command.Update update) = Unit {0}

@@ -1,5 +1,5 @@
 -- The two forms of commands that run.
-use Rattle.std.specs.Prelude.{◌&&◌, ◌||◌, not, ℕ, zero, suc, ℤ, pos, negsuc, List, [], ◌∷◌, Bool, true, false, Option, Some, None, is_some, nat_le, if◌then◌else◌}
+use Rattle.std.specs.Prelude.{◌&&◌, ◌||◌, not, ℕ, zero, suc, ℤ, pos, negsuc, List, [], ◌∷◌, Bool, true, false, Option, Some, None, is_some, nat_le, option_and_then, if◌then◌else◌}
 use Rattle.std.specs.Str.{bytes_eq}
 use Rattle.pl_base.specs.declared.types.Ty.{Ty}
 use Rattle.pl_base.specs.declared.types.Ty.TheVariants as type
@@ -50,26 +50,30 @@ table_of (definition.DropTable if_exists name) = None
 table_of (definition.DropRoutine kind if_exists name types) = None
 table_of (definition.DropTrigger if_exists name table) = None
 
+-- the definition, if its text can be stored
+abbrev pub stored_by : Definition → Text → Option Definition
+stored_by definition source = if is_define_text source then Some definition else None
+
 -- the table that a definition makes, whose text can be stored
 abbrev pub table_by : Definition → Text → Option IntegerTable
-table_by definition source = if is_define_text source then table_of definition else None
+table_by definition source = option_and_then table_of (stored_by definition source)
 
--- the table that a command makes
-abbrev pub table_in : Command → Option IntegerTable
-table_in (command.Define definition source) = table_of definition
-table_in (command.Query query) = None
-table_in (command.Insert insert) = None
-table_in (command.Update update) = None
-table_in (command.Delete delete) = None
-table_in (command.Do language body) = None
-table_in (command.Call name arguments) = None
-table_in command.Begin = None
-table_in command.StartTransaction = None
-table_in command.Commit = None
-table_in command.Rollback = None
-table_in (command.Savepoint name) = None
-table_in (command.Release name) = None
-table_in (command.RollbackTo name) = None
+-- the definition that a command is
+abbrev pub definition_of : Command → Option Definition
+definition_of (command.Define definition source) = Some definition
+definition_of (command.Query query) = None
+definition_of (command.Insert insert) = None
+definition_of (command.Update update) = None
+definition_of (command.Delete delete) = None
+definition_of (command.Do language body) = None
+definition_of (command.Call name arguments) = None
+definition_of command.Begin = None
+definition_of command.StartTransaction = None
+definition_of command.Commit = None
+definition_of command.Rollback = None
+definition_of (command.Savepoint name) = None
+definition_of (command.Release name) = None
+definition_of (command.RollbackTo name) = None
 
 -- the command is a definition whose text this is: from its first token's first byte to its last token's last byte
 abbrev pub is_text_of : Text → Command → Bool

@@ -5,7 +5,7 @@ use Rattle.pl_base.specs.declared.operation.Op.TheVariants.{Define, Put, Remove,
 use Rattle.pl_codec.specs.Reading.{operations_of}
 use Rattle.pl_codec.specs.Spelling.{is_row_id}
 use Rattle.pl_meaning.specs.declared.form.IntegerTable.{IntegerTable}
-use Rattle.pl_meaning.specs.Computed.{definition_in}
+use Rattle.pl_meaning.specs.Computed.{table_in}
 use Rattle.pl_meaning.specs.Database.{Database, define, integer_column, put, raise, remove}
 
 -- the new table of a definition, if there is one
@@ -13,11 +13,11 @@ abbrev pub define_by : Option IntegerTable → Database → Option Database
 define_by (Some made) db = define made.table (integer_column made.column) db
 define_by None db = None
 
--- The database after an operation; None where it doesn't apply. A Define holds the text of a CREATE TABLE: it makes the table that its
--- text `Defines`, which is the one that `definition_in` computes (`one_definition`). Row ids are from 1 to 2^63 - 1. A
--- Remove has the id of a row that is there, and a Next an id that isn't below the present next one.
+-- The database after an operation; None where it doesn't apply. A Define holds the text of a CREATE TABLE, and makes its table. Which
+-- definition a text is `Defines` says, and `definition_in` computes it (`one_definition`). Row ids are from 1 to 2^63 - 1. A Remove has
+-- the id of a row that is there, and a Next an id that isn't below the present next one.
 abbrev pub apply : Op → Database → Option Database
-apply (Define text) db = define_by (definition_in text) db
+apply (Define text) db = define_by (table_in text) db
 apply (Put table id row) db = if is_row_id id then put table id row db else None
 apply (Remove table id) db = remove table id db
 apply (Next table next) db = raise table next db

@@ -3,7 +3,7 @@ use Rattle.std.specs.Prelude.{◌≡◌, ◌≤◌, ℕ, ◌+◌, ◌^◌, List,
 use Rattle.pl_base.specs.declared.operation.Op.{Op}
 use Rattle.pl_base.specs.declared.operation.Op.TheVariants.{Define, Put, Next}
 use Rattle.pl_base.specs.declared.value.Value.{Value}
-use Rattle.pl_meaning.specs.Computed.{definition_in}
+use Rattle.pl_meaning.specs.Computed.{table_in}
 use Rattle.pl_meaning.specs.Database.{Database, Column, TableObject, Table, MOST_ROWS, fits, has, integer_column}
 use Rattle.pl_meaning.specs.declared.form.IntegerTable.{IntegerTable}
 
@@ -50,7 +50,7 @@ whole (text ∷ texts) (TableObject table ∷ db) = table_ops text table ++ whol
 -- the text defines an empty table of this name and these columns
 pub record IsTextOf (text : List ℕ) (table : Table) : Type 0 where
   pub made : IntegerTable
-  pub defines : definition_in text ≡ Some made
+  pub defines : table_in text ≡ Some made
   pub name : table.name ≡ made.table
   pub columns : table.columns ≡ integer_column made.column
 

@@ -1,4 +1,4 @@
-//! The table that a stored text defines.
+//! The definition that a stored text is, and the table that it makes.
 
 ghost use Rattle.std.specs.Prelude.{◌≡◌, ◌↔◌, ℕ, Some, IfOk};
 ghost use Rattle.pl_lex.specs.Characters.{Text};
@@ -11,21 +11,30 @@ ghost use Rattle.pl_meaning.specs.Definition.{Defines};
 ghost use Rattle.pl_meaning.specs.Form as forms;
 ghost use Rattle.pl_meaning.specs.Reading.{IsPieceRead};
 ghost use Rattle.pl_meaning.specs.declared.reading.Reading.TheVariants.{Spelled};
-ghost use Rattle.pl_meaning.specs.declared.form.IntegerTable.{IntegerTable as OneTable};
 
-use crate::form::{IntegerTable, table_in};
+use crate::form::{IntegerTable, table_of};
 use crate::reading::{Reading, read_tokens};
-use pl_base::Memory;
+use pl_base::{Memory, Txt};
 use pl_codec::is_define_text;
 use pl_lex::{LexFail, lex, read_utf8};
-use pl_tree::Command;
+use pl_tree::{Command, Definition};
 use std::alloc::Global;
 
-fn is_text_of(text: &[u8], command: &Command) -> bool
-    ensures { result ≡ forms.is_text_of text.now command.now }
+// The definition, if this is its own text.
+fn if_its_own(text: &[u8], definition: Definition, source: &Txt) -> Option<Definition>
+    ensures { result ≡ spec.defined_by text.now (Spelled (Define definition source.now)) }
+{
+    if source.as_bytes() != text {
+        return None;
+    }
+    Some(definition)
+}
+
+fn defined_in(text: &[u8], command: Command) -> Option<Definition>
+    ensures { result ≡ spec.defined_by text.now (Spelled command) }
 {
     match command {
-        Command::Define { source, .. } => source.as_bytes() == text,
+        Command::Define { definition, source } => if_its_own(text, definition, &source),
         Command::Query(_)
         | Command::Insert(_)
         | Command::Update(_)
@@ -38,21 +47,12 @@ fn is_text_of(text: &[u8], command: &Command) -> bool
         | Command::Rollback
         | Command::Savepoint(_)
         | Command::Release(_)
-        | Command::RollbackTo(_) => false,
+        | Command::RollbackTo(_) => None,
     }
 }
 
-fn defined_in(text: &[u8], command: &Command) -> Option<IntegerTable>
-    ensures { result ≡ spec.defined_by text.now (Spelled command.now) }
-{
-    if !is_text_of(text, command) {
-        return None;
-    }
-    table_in(command)
-}
-
-fn defined_by(text: &[u8], reading: &Reading) -> Option<IntegerTable>
-    ensures { result ≡ spec.defined_by text.now reading.now }
+fn defined_by(text: &[u8], reading: Reading) -> Option<Definition>
+    ensures { result ≡ spec.defined_by text.now reading }
 {
     match reading {
         Reading::Spelled(command) => defined_in(text, command),
@@ -61,9 +61,9 @@ fn defined_by(text: &[u8], reading: &Reading) -> Option<IntegerTable>
     }
 }
 
-/// The table that a text defines, if it is the whole text of a CREATE TABLE that runs.
-pub fn read_definition(alloc: Global, text: &[u8]) -> Result<Option<IntegerTable>, Memory>
-    ensures { IfOk result (λ made. made ≡ spec.definition_in text.now) }
+/// The definition that a text is, if it is the whole text of one.
+pub fn read_definition(alloc: Global, text: &[u8]) -> Result<Option<Definition>, Memory>
+    ensures { IfOk result (λ found. found ≡ spec.definition_in text.now) }
 {
     if !is_define_text(text) {
         return Ok(None);
@@ -77,18 +77,28 @@ pub fn read_definition(alloc: Global, text: &[u8]) -> Result<Option<IntegerTable
         Err(LexFail::Memory) => return Err(Memory),
     };
     let reading = read_tokens(alloc, &tokens, script)?;
-    Ok(defined_by(text, &reading))
+    Ok(defined_by(text, reading))
 }
 
-/// A text defines a table exactly where it is computed to.
+/// The table that a text makes, if it is the whole text of a CREATE TABLE that runs.
+pub fn read_table(alloc: Global, text: &[u8]) -> Result<Option<IntegerTable>, Memory>
+    ensures { IfOk result (λ made. made ≡ spec.table_in text.now) }
+{
+    let Some(definition) = read_definition(alloc, text)? else {
+        return Ok(None);
+    };
+    Ok(table_of(&definition))
+}
+
+/// A text is a definition exactly where it is computed to be.
 pub fn one_definition()
-    ensures is { (text : Text) (table : OneTable)
-        → Defines text table ↔ (spec.definition_in text ≡ Some table) }
+    ensures is { (text : Text) (definition : OneDefinition)
+        → Defines text definition ↔ (spec.definition_in text ≡ Some definition) }
 {}
 
 /// A definition means by its own text, read by itself, what it means in its script.
 pub fn texts_mean_alike()
     ensures is { (text : Text) (from : ℕ) (piece : OnePiece) (x : OneDefinition) (source : Text)
         → IsNext text from (Some piece) → IsPieceRead text piece (Spelled (Define x source))
-        → spec.definition_in source ≡ forms.table_by x source }
+        → spec.definition_in source ≡ forms.stored_by x source }
 {}

@@ -5,7 +5,7 @@ ghost use Rattle.pl_meaning.specs.Form as spec;
 
 use pl_base::{Name, Ty};
 use pl_codec::{is_define_text, is_table_name};
-use pl_tree::{Command, Definition, Element, Expr, Insert, Literal, NewRows, NewValue};
+use pl_tree::{Definition, Element, Expr, Insert, Literal, NewRows, NewValue};
 
 /// A new table with one column, of the type integer.
 #[derive(Clone, Copy)]
@@ -25,30 +25,9 @@ pub fn table_by(definition: &Definition, source: &[u8]) -> Option<IntegerTable>
     table_of(definition)
 }
 
-/// The table that a command makes: one column of the type integer, without rules, no IF NOT EXISTS,
-/// and a name that a store can hold.
-pub fn table_in(command: &Command) -> Option<IntegerTable>
-    ensures { result ≡ spec.table_in command.now }
-{
-    match command {
-        Command::Define { definition, .. } => table_of(definition),
-        Command::Query(_)
-        | Command::Insert(_)
-        | Command::Update(_)
-        | Command::Delete(_)
-        | Command::Do { .. }
-        | Command::Call { .. }
-        | Command::Begin
-        | Command::StartTransaction
-        | Command::Commit
-        | Command::Rollback
-        | Command::Savepoint(_)
-        | Command::Release(_)
-        | Command::RollbackTo(_) => None,
-    }
-}
-
-fn table_of(definition: &Definition) -> Option<IntegerTable>
+/// The table that a definition makes: one column of the type integer, without rules, no IF NOT
+/// EXISTS, and a name that a store can hold.
+pub(crate) fn table_of(definition: &Definition) -> Option<IntegerTable>
     ensures { result ≡ spec.table_of definition.now }
 {
     match definition {

@@ -10,7 +10,7 @@ mod reading;
 mod script;
 mod whole;
 
-pub use definition::{one_definition, read_definition, texts_mean_alike};
+pub use definition::{one_definition, read_table, texts_mean_alike};
 pub use examples::examples_hold;
 pub use form::{IntegerTable, number_in, table_by};
 pub use reading::{Reading, one_reading, read_piece};

@@ -8,7 +8,7 @@ use Rattle.pl_base.specs.declared.value.Value.TheVariants as value
 use Rattle.pl_codec.specs.Reading.{operations_of}
 use Rattle.pl_codec.specs.Spelling.{is_row_id, is_stored_op, is_table_name}
 use Rattle.pl_tree.specs.declared.command.Insert.{Insert}
-use Rattle.pl_meaning.specs.Computed.{definition_in}
+use Rattle.pl_meaning.specs.Computed.{table_in}
 use Rattle.pl_meaning.specs.Database.{Database, put}
 use Rattle.pl_meaning.specs.Form.{is_empty, one_row, number_in}
 use Rattle.pl_meaning.specs.Meaning.{commits_or, creates, inserts_at}
@@ -41,9 +41,9 @@ spells_one payload op change db text is same = record {
 }
 
 -- and so does the operation that has it
-pub spells_table : (payload text copy : List ℕ) (made : IntegerTable) (db : Database) → copy ≡ text → definition_in text ≡ Some made → operations_of payload ≡ Some (Define text ∷ []) → Spells payload (Create made copy) db
+pub spells_table : (payload text copy : List ℕ) (made : IntegerTable) (db : Database) → copy ≡ text → table_in text ≡ Some made → operations_of payload ≡ Some (Define text ∷ []) → Spells payload (Create made copy) db
 spells_table payload text copy made db same is spelled =
-    spells_one payload (Define text) (Create made copy) db (ap definition_in same ∙ is) spelled (sym (ap (λ (o : Option IntegerTable). define_by o db) is))
+    spells_one payload (Define text) (Create made copy) db (ap table_in same ∙ is) spelled (sym (ap (λ (o : Option IntegerTable). define_by o db) is))
 
 -- a row of one number can be stored
 pub row_stored : (table : List ℕ) (id : ℕ) (number : ℤ) (row : List Value) → row ≡ value.Int number ∷ [] → is_table_name table ≡ true → is_row_id id ≡ true → is_stored_op (Put table id row) ≡ true

@@ -5,7 +5,7 @@ use Rattle.pl_catalog.specs.declared.object.Object.{Object as Entry}
 use Rattle.pl_meaning.specs.Catalogue.{catalogue_of}
 use Rattle.pl_meaning.specs.Database.{Database, Object, TableObject, Table as TableValue, integer_column}
 use Rattle.pl_lex.specs.Characters.{Text}
-use Rattle.pl_meaning.specs.Computed.{definition_in}
+use Rattle.pl_meaning.specs.Computed.{table_in}
 use Rattle.pl_meaning.specs.Operation.{apply, define_by}
 use Rattle.pl_meaning.specs.Whole.{whole}
 use Rattle.pl_session.specs.declared.tables.Change.{Change}
@@ -47,7 +47,7 @@ abbrev pub changed : Change → Database → Option Database
 changed (Create made text) db = define_by (Some made) db
 changed (Apply op) db = apply op db
 
--- the text of a new table defines it
+-- the text of a new table makes it
 abbrev pub HasText : Change → Type 0
-HasText (Create made text) = definition_in text ≡ Some made
+HasText (Create made text) = table_in text ≡ Some made
 HasText (Apply op) = Unit {0}

@@ -4,7 +4,7 @@ ghost use Rattle.std.specs.Prelude.{◌≡◌, IfOk, true};
 ghost use Rattle.pl_codec.specs.Spelling.{is_table_name};
 ghost use Rattle.pl_meaning.specs.Computed.{CommandMeansAlike, MeansAlike, definition_in};
 ghost use Rattle.pl_meaning.specs.Database.{next_of};
-ghost use Rattle.pl_meaning.specs.Form.{number_in, table_by};
+ghost use Rattle.pl_meaning.specs.Form.{number_in, stored_by, table_by};
 ghost use Rattle.pl_meaning.specs.Meaning.{command_events, creates, inserts, inserts_at};
 ghost use Rattle.pl_session.specs.Plans.{Plans, IsPlan};
 ghost use Rattle.pl_session.specs.declared.plan.Plan.TheVariants as plan;
@@ -87,7 +87,7 @@ fn plan_create(
     definition: Definition,
     source: Txt,
 ) -> Result<Plan, Memory>
-    requires alike { definition_in source ≡ table_by definition source }
+    requires alike { definition_in source ≡ stored_by definition source }
     ensures { IfOk result (Plans
         (creates (table_by definition source) (database_of tables.now.list.items))
         (database_of tables.now.list.items)) }

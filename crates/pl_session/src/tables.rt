@@ -6,7 +6,7 @@ ghost use Rattle.std.specs.List.{position};
 ghost use Rattle.std.specs.Cmp.Lexicographic.{pointwise};
 ghost use Rattle.pl_catalog.specs.contracts.object.Object as object;
 ghost use Rattle.pl_meaning.specs.Catalogue as catalogue;
-ghost use Rattle.pl_meaning.specs.Computed.{definition_in};
+ghost use Rattle.pl_meaning.specs.Computed.{table_in};
 ghost use Rattle.pl_meaning.specs.Database.{empty_table, integer_column, define, next_of};
 ghost use Rattle.pl_meaning.specs.Database.{put, remove, raise};
 ghost use Rattle.pl_base.specs.declared.operation.Op.TheVariants.{Define, Put};
@@ -21,7 +21,7 @@ use crate::table::Table;
 use pl_base::{Bytes, Cells, List, Memory, Name, Op, Txt, Ty};
 use pl_catalog::{Catalog, Column, Object, TableDef};
 use pl_codec::encode_all;
-use pl_meaning::{IntegerTable, read_definition};
+use pl_meaning::{IntegerTable, read_table};
 use pl_value::Lent;
 use std::alloc::{AllocError, Global};
 use std::collections::BTreeMap;
@@ -127,7 +127,7 @@ impl Tables {
 
     // Whether the table that the text defines was made.
     fn define(&mut self, made: IntegerTable, text: Txt) -> Result<bool, Memory>
-        requires { definition_in text ≡ Some made }
+        requires { table_in text ≡ Some made }
         ensures { IfOk result (λ done. Becomes done (database_of self.old.list.items)
             (database_of self.new.list.items) (define made.table (integer_column made.column)
             (database_of self.old.list.items))) }
@@ -158,7 +158,7 @@ impl Tables {
             (database_of self.new.list.items)
             (apply (Define text) (database_of self.old.list.items))) }
     {
-        let Some(made) = read_definition(self.alloc, text.as_bytes())? else {
+        let Some(made) = read_table(self.alloc, text.as_bytes())? else {
             return Ok(false);
         };
         self.define(made, text)
