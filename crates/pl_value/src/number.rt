@@ -26,7 +26,7 @@ pub(crate) struct Number {
     pub is_integer: bool,
 }
 
-// A number or none, as two registers hold it: a call that is passed on so takes no memory.
+// A number or none, in two scalars, which a call hands back in registers.
 #[derive(Clone, Copy)]
 struct Packed {
     kind: Kind,
@@ -189,8 +189,8 @@ fn outer_chain<C>(chain: &RChain, frame: &[Lent<'_>], depth: usize) -> Option<Nu
     steps_number::<C>(chain.steps.as_slice(), first, frame, depth)
 }
 
-/// The same as `number_in`, but a chain is read in place and not by a call, which costs as much as
-/// a step: for operands that mostly are chains.
+/// The same as `number_in`, for operands that mostly are chains: such a chain is read in place,
+/// which spares a call.
 #[cycle(number)]
 #[inline(always)]
 pub(crate) fn number_of_chain<C>(e: &RExpr, frame: &[Lent<'_>], depth: usize) -> Option<Number>
