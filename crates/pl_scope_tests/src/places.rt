@@ -115,7 +115,8 @@ CASE WHEN true THEN 1 END::text  ->  (CASE integer WHEN true THEN 1)::text case 
 EXISTS (SELECT t.*, t.*, t.*, t.*, t.*, t.*, t.*, t.*, t.*, t.*, t.*, t.*, t.*, t.*, t.*, t.* FROM t)  ->  (EXISTS #0) exists boolean
 "#;
 
-fn items_of(alloc: Global, queries: &[RQuery]) -> Words {
+/// The items of each query.
+pub(crate) fn items_of(alloc: Global, queries: &[RQuery]) -> Words {
     let mut out = Words::new(alloc);
     for (at, query) in queries.iter().enumerate() {
         if at != 0 {
@@ -143,7 +144,7 @@ fn expression(alloc: Global, resolved: &ResolvedExpr) -> Result<Words, Memory> {
     Ok(out)
 }
 
-fn state(alloc: Global, fail: ScopeFail) -> Result<Words, Memory> {
+pub(crate) fn state(alloc: Global, fail: ScopeFail) -> Result<Words, Memory> {
     let state = state_of(alloc, fail)?;
     let mut out = Words::new(alloc);
     out.push(state.as_slice());
@@ -164,7 +165,7 @@ fn variables(alloc: Global, catalog: &Catalog, scope: &Scope, e: &Expr) -> Resul
     }
 }
 
-fn is(words: Result<Words, Memory>, expected: &str) -> bool {
+pub(crate) fn is(words: Result<Words, Memory>, expected: &str) -> bool {
     match words {
         Ok(words) => words.text() == expected.as_bytes(),
         Err(_) => false,

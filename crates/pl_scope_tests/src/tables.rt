@@ -1,8 +1,9 @@
 //! The tables that queries are about.
 
-use pl_base::{List, Memory, Name, Txt, Ty};
+use pl_base::{Boxed, List, Memory, Name, Txt, Ty, Value};
 use pl_catalog::{Catalog, Column, Object, TableDef};
 use pl_names::{Scope, Seen, Shape, Visible};
+use pl_resolved::RExpr;
 use pl_typing::ScopeFail;
 use std::alloc::Global;
 
@@ -48,6 +49,36 @@ pub(crate) fn catalog(alloc: Global) -> Result<Catalog, Memory> {
     let catalog = with(Catalog::new(alloc), table(alloc, "t", &t)?)?;
     let catalog = with(catalog, table(alloc, "u", &u)?)?;
     with(catalog, table(alloc, "n", &n)?)
+}
+
+// An integer, and a text with a default.
+fn table_of_defaults(alloc: Global) -> Result<Object, Memory> {
+    let mut columns = List::new(alloc);
+    columns.push(Column {
+        name: word("k")?,
+        ty: Ty::Int,
+        is_not_null: false,
+        default: None,
+    })?;
+    let default = RExpr::Constant(Value::Text(Txt::from_slice(alloc, b"d")?));
+    columns.push(Column {
+        name: word("v")?,
+        ty: Ty::Text,
+        is_not_null: false,
+        default: Some(Boxed::new(alloc, default)?),
+    })?;
+    Ok(Object::Table(TableDef {
+        name: word("d")?,
+        text: Txt::from_slice(alloc, b"")?,
+        columns,
+        rules: List::new(alloc),
+    }))
+}
+
+/// The same, and `d` with the integer `k` and the text `v`, whose default is 'd'.
+pub(crate) fn catalog_with_defaults(alloc: Global) -> Result<Catalog, Memory> {
+    let catalog = catalog(alloc)?;
+    with(catalog, table_of_defaults(alloc)?)
 }
 
 fn seen(name: &str, ty: Ty) -> Result<Seen, Memory> {

@@ -52,7 +52,7 @@ impl Words {
         }
     }
 
-    fn place(&mut self, place: usize) {
+    pub(crate) fn place(&mut self, place: usize) {
         match format!(in self.alloc; "{place}") {
             Ok(digits) => self.push(digits.as_bytes()),
             Err(_) => self.is_whole = false,
