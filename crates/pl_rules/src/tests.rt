@@ -102,21 +102,27 @@ fn of_row(
 }
 
 fn breaks(answer: Result<(), RuleFail>, state: State, rule: &str) -> bool {
-    match answer {
-        Err(
-            RuleFail::Broken {
-                state: broken,
-                rule: name,
-            },
-        ) => broken == state && name.as_bytes() == rule.as_bytes(),
-        _ => false,
+    let Err(fail) = answer else {
+        return false;
+    };
+    match fail {
+        RuleFail::Broken {
+            state: broken,
+            rule: name,
+        } => broken == state && name.as_bytes() == rule.as_bytes(),
+        RuleFail::Evaluating(_) => false,
+        RuleFail::Memory => false,
     }
 }
 
 fn evaluates_to(answer: Result<(), RuleFail>, state: State) -> bool {
-    match answer {
-        Err(RuleFail::Evaluating(failed)) => failed == state,
-        _ => false,
+    let Err(fail) = answer else {
+        return false;
+    };
+    match fail {
+        RuleFail::Evaluating(failed) => failed == state,
+        RuleFail::Broken { .. } => false,
+        RuleFail::Memory => false,
     }
 }
 
