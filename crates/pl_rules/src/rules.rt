@@ -1,7 +1,7 @@
 //! Which rule a row breaks first: NOT NULL in the order of the columns, then CHECK in the order of
 //! the names.
 
-ghost use Rattle.std.specs.Prelude.{◌≡◌, IfOk, Option, length, option_map};
+ghost use Rattle.std.specs.Prelude.{◌≡◌, IfOk, Option, option_map};
 ghost use Rattle.std.specs.Option.{is_none};
 ghost use Rattle.pl_calc.specs.Logic.{is_null, truth_of};
 ghost use Rattle.pl_catalog.specs.declared.object.TableDef as catalog;
@@ -51,7 +51,6 @@ impl From<Memory> for RuleFail {
 /// of the columns, then CHECK in the order of the names by their bytes.
 #[tactic(auto, using(crate::proofs::Judged::refused))]
 pub fn check_row(alloc: Global, table: &TableDef, row: &Cells) -> Result<(), RuleFail>
-    requires { length row.now ≡ length table.now.columns }
     ensures { Answers result (first_failure table.now row.now) }
 {
     if let Some(name) = null_column(table.columns.as_slice(), row.as_slice()) {
