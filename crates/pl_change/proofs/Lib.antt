@@ -1,0 +1,4 @@
+mod OneTable
+mod Slots
+mod Taken
+mod Turns

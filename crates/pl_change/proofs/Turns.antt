@@ -1,0 +1,89 @@
+-- Readings of a command that go on.
+use Rattle.std.proofs.Common.{◌≡◌, ◌<◌, ◌+◌, ℕ, List, [], ◌∷◌, ◌++◌, map, drop, get_or, length, Option, Some, None, Result, Ok, Err, refl, sym, ap, ◌∙◌, subst, add-one, drop-cons}
+use Rattle.std.specs.Prelude.{OnOk}
+use Rattle.pl_base.specs.States.{TRIGGERED_DATA_CHANGE_VIOLATION}
+use Rattle.pl_base.specs.declared.state.State.{State}
+use Rattle.pl_change.specs.Changes.{Progress, Setting, at_row, if_there, progress, state_of, told, unless_broken, writes, written}
+use Rattle.pl_change.specs.Running.{reached, Judged, Leads}
+use Rattle.pl_rules.specs.declared.rules.RuleFail.{RuleFail}
+use Rattle.pl_tables.specs.Named.{Named, row_named}
+use Rattle.pl_query.specs.Rows.{in_turn}
+use Rattle.pl_resolved.specs.declared.expression.RExpr.{RExpr}
+use Rattle.pl_value.specs.Answers.{Reads}
+use Rattle.pl_value.specs.Frames.{Frame, Row}
+use Rattle.pl_value.specs.Meaning.{Calls, Sub, value, values}
+use Rattle.pl_value.specs.Reading.{Reading, got, fails, settled, then_read}
+use Rattle.pl_value.specs.Steps.{stops}
+use Rattle.pl_value.specs.declared.operand.Unsettled.{Unsettled}
+use Rattle.pl_value.specs.declared.operand.Unsettled.TheVariants.{Fails, Memory}
+
+-- what equals what was read is read alike
+pub same_reads : {W A : Type 0} (q q' : Reading W A) (r : Result A Unsettled) (new : W) → q ≡ q' → Reads q' r new → Reads q r new
+same_reads {W} {A} q q' r new is reads = subst (λ (q : Reading W A). Reads q r new) (sym is) reads
+
+-- a thing that is there stands in front of those behind it
+pub front : {A : Type 0} (xs : List A) (i : ℕ) (x : A) → i < length xs → x ≡ get_or xs i x → drop i xs ≡ x ∷ drop (i + 1) xs
+front xs i x lt is = rw (add-one, drop-cons xs i x lt, ← is) refl
+
+module _ {W A : Type 0} (adds : A → Progress → W → Reading W Progress) (xs : List A) (i : ℕ) where
+  -- one more was done
+  pub turn_goes : (x : A) → drop i xs ≡ x ∷ drop (i + 1) xs → (whole : Reading W Progress) (p p' : Progress) (w w' : W) → whole ≡ in_turn adds (drop i xs) p w
+      → adds x p w ≡ got p' w' → whole ≡ in_turn adds (drop (i + 1) xs) p' w'
+  turn_goes x is whole p p' w w' reads gives =
+      reads ∙ (ap (λ (ys : List A). in_turn adds ys p w) is
+      ∙ ap (λ (q : Reading W Progress). then_read q (λ p w. in_turn adds (drop (i + 1) xs) p w)) gives)
+
+  -- one failed
+  pub turn_stops : (x : A) → drop i xs ≡ x ∷ drop (i + 1) xs → (whole : Reading W Progress) (p : Progress) (w new : W) (why : Unsettled) → whole ≡ in_turn adds (drop i xs) p w
+      → Reads {A = Progress} (adds x p w) (Err why) new → Reads {A = Progress} whole (Err why) new
+  turn_stops x is whole p w new why reads failed =
+      stops {A = Progress} {B = Progress} whole (adds x p w) (λ p w. in_turn adds (drop (i + 1) xs) p w) why new (reads ∙ ap (λ (ys : List A). in_turn adds ys p w) is) failed
+
+values_same : {W : Type 0} (calls : Calls W) (inner : Sub W) (list : List RExpr) (around : Frame) (copied row : Row) (w : W) → ((e : RExpr) (more : List RExpr) → list ≡ e ∷ more → copied ≡ row)
+    → values (map (value calls inner) list) [] (around ++ copied ∷ []) w ≡ values (map (value calls inner) list) [] (around ++ row ∷ []) w
+values_same calls inner [] around copied row w is = refl
+values_same calls inner (e ∷ more) around copied row w is = ap (λ (r : Row). values (map (value calls inner) (e ∷ more)) [] (around ++ r ∷ []) w) (is e more refl)
+
+module _ {W : Type 0} (s : Setting W) where
+  told_same : (copied row : Row) (p : Progress) (w : W) → ((e : RExpr) (more : List RExpr) → s.change.returning ≡ e ∷ more → copied ≡ row) → told s row p w ≡ told s copied p w
+  told_same copied row p w is =
+      ap (λ (q : Reading W Row). then_read q (λ shown w. got (progress p.tables (p.returned ++ shown ∷ [])) w)) (sym (values_same s.calls s.inner s.change.returning s.around copied row w is))
+
+  -- a row was written, and shown by its copy
+  pub wrote : (id : Option ℕ) (copied row : Row) (before after : List Named) (rows : List Row) (w new : W) (r : Result (List Row) Unsettled)
+      → ((e : RExpr) (more : List RExpr) → s.change.returning ≡ e ∷ more → copied ≡ row) → written s.table s.change.table id row before ≡ Ok after
+      → Reads {A = Progress} (told s copied (progress after rows) w) (reached r after) new → Reads {A = Progress} (writes s id row (progress before rows) w) (reached r after) new
+  wrote id copied row before after rows w new r is leads reads =
+      same_reads (writes s id row (progress before rows) w) (told s copied (progress after rows) w) (reached r after) new
+      (ap (λ (o : Result (List Named) State). then_read (settled o w) (λ tables w. told s row (progress tables rows) w)) leads ∙ told_same copied row (progress after rows) w is) reads
+
+  -- it wasn't
+  pub refused : (A : Type 0) (id : Option ℕ) (row : Row) (before after : List Named) (rows : List Row) (w : W) (why : Unsettled)
+      → Leads {A = A} (written s.table s.change.table id row before) (Err why) after → Reads {A = Progress} (writes s id row (progress before rows) w) (Err why) w
+  refused A id row before after rows w (Fails state) leads = ap (λ (o : Result (List Named) State). then_read (settled o w) (λ tables w. told s row (progress tables rows) w)) leads
+  refused A id row before after rows w Memory leads = tt
+
+  -- the row of an id that is there, and one that isn't
+  pub row_there : (reads : Row → W → Reading W (Option Row)) (id : ℕ) (ts : List Named) (row : Row) (w : W) → row_named s.change.table id ts ≡ Some row → at_row s reads id ts w ≡ reads row w
+  row_there reads id ts row w is =
+      ap (λ (o : Option Row). if_there s reads o w) is
+
+  pub row_gone : (reads : Row → W → Reading W (Option Row)) (id : ℕ) (ts : List Named) (w : W) → row_named s.change.table id ts ≡ None → at_row s reads id ts w ≡ fails TRIGGERED_DATA_CHANGE_VIOLATION w
+  row_gone reads id ts w is =
+      ap (λ (o : Option Row). if_there s reads o w) is
+
+-- the rules let a row pass, or they don't
+pub passed : {A : Type 0} (failure : Option RuleFail) (next : Result (List Named) State) (r : Result A Unsettled) (now : List Named) → failure ≡ None → Leads next r now → Leads (unless_broken failure next) r now
+passed {A} failure next r now is leads = subst (λ (f : Option RuleFail). Leads {A = A} (unless_broken f next) r now) (sym is) leads
+
+pub broken : (A B : Type 0) (failure : Option RuleFail) (next : Result (List Named) State) (why : Unsettled) (now : List Named) → Judged {A = A} failure (Err why) → Leads {A = B} (unless_broken failure next) (Err why) now
+broken A B None next (Fails state) now is = absurd cc
+broken A B (Some fail) next (Fails state) now is =
+    let e : state_of fail ≡ state = (let o : Some (state_of fail) ≡ Some state = is in cc) in
+    ap (λ (s : State). let r : Result (List Named) State = Err s in r) e
+broken A B failure next Memory now is = tt
+
+-- what holds anyway holds of an Ok
+pub on_ok : {A E P : Type 0} (r : Result A E) → P → OnOk r P
+on_ok (Ok x) p = p
+on_ok (Err e) p = tt

@@ -1,0 +1,13 @@
+//! What INSERT, UPDATE and DELETE do to a store of rows.
+#![tactic(auto)]
+
+mod at_start;
+mod command;
+mod commands;
+mod evaluation;
+mod rows;
+mod writing;
+
+pub use at_start::AtStart;
+pub use command::Command;
+pub use commands::change;

@@ -1,0 +1,376 @@
+//! What each row of a command does.
+
+ghost use Rattle.std.specs.Prelude.{◌≡◌, IfOk, IsSome, OnOk, Some, option_map, slice_set};
+ghost use Rattle.std.specs.Option.{option_copied};
+ghost use Rattle.pl_change.specs.Changes as spec;
+ghost use Rattle.pl_change.specs.Changes.{assigned, progress};
+ghost use Rattle.pl_change.specs.Running.{reached, setting_of, ChangesOnly, Sees};
+ghost use Rattle.pl_tables.specs.Named.{content_named, row_named};
+ghost use Rattle.pl_value.specs.Answers.{Reads};
+ghost use Rattle.pl_value.specs.Frames.{rows_of};
+ghost use Rattle.pl_value.specs.Meaning.{Calls, Sub};
+ghost use Rattle.pl_value.specs.Reading.{got, then_read};
+
+use crate::Command;
+use crate::at_start::copy_row;
+use crate::evaluation::{read_all, read_if, stand};
+use crate::writing::write_row;
+use pl_base::{Boxed, Cells, Name, State, Value};
+use pl_query::Rows;
+use pl_resolved::RExpr;
+use pl_undo::Store;
+use pl_value::{Caller, Lent, Unsettled};
+use std::alloc::{AllocError, Global};
+
+/// INSERT of one row.
+pub(crate) fn add_row<'a, C: Caller>(
+    alloc: Global,
+    command: &Command<'a>,
+    parts: &'a [RExpr],
+    frame: &[Lent<'a>],
+    store: &mut Store,
+    rows: Rows,
+    caller: &mut C,
+) -> Result<Rows, Unsettled>
+    requires { IsSome (content_named command.now.change.now.table store.old.now.tables) }
+    ensures reads { (inner : Sub C) → Sees C.calls command.now store.old.now.tables inner
+        → Reads (spec.adds (setting_of C.calls inner command.now) parts.now (rows_of frame.now)
+        (progress store.old.now.tables rows) caller.old)
+        (reached result store.new.now.tables) caller.new }
+    ensures only { ChangesOnly command.now.change.now.table store.old store.new }
+{
+    match read_all(alloc, &*command, &*store, &*parts, &*frame, caller) {
+        Ok(row) => write_row(alloc, &*command, None, row, store, rows, caller),
+        Err(why) => Err(why),
+    }
+}
+
+// The row of this id in the table of this name.
+fn row_of(store: &Store, name: Name, id: u64) -> Option<&Cells>
+    ensures { option_copied result ≡ row_named name id store.now.now.tables }
+{
+    match store.tables().table(name) {
+        Some(table) => table.row(id),
+        None => None,
+    }
+}
+
+// The row with these values in these columns.
+#[tactic(auto, using(crate::proofs::Slots::no_values))]
+fn assign(
+    alloc: Global,
+    mut columns: &[usize],
+    mut values: &[Value],
+    row: &[Value],
+) -> Result<Cells, AllocError>
+    ensures { IfOk result (λ made. made
+        ≡ assigned columns.entry.now values.entry.now row.now) }
+{
+    let mut made = copy_row(alloc, row)?;
+    while let [column, others @ ..] = columns {
+        let [value, more @ ..] = values else {
+            return Ok(made);
+        };
+        set_cell(&mut made, *column, value.copy(alloc)?);
+        columns = others;
+        values = more;
+    }
+    Ok(made)
+}
+
+// A column that isn't there is left out.
+fn set_cell(row: &mut Cells, column: usize, value: Value)
+    ensures { row.new ≡ slice_set row.old column value }
+{
+    if column < row.len() {
+        row.set(column, value);
+    }
+}
+
+// The same, as what there is of a row that passed.
+fn assign_all<C>(
+    alloc: Global,
+    columns: &[usize],
+    values: &[Value],
+    row: &[Value],
+) -> Result<Option<Cells>, Unsettled>
+    ensures { (w : C) → Reads (got (Some (assigned columns.now values.now row.now)) w) result w }
+{
+    let made = assign(alloc, columns, values, row)?;
+    Ok(Some(made))
+}
+
+// The same, if there are values.
+fn assign_if<C>(
+    alloc: Global,
+    columns: &[usize],
+    values: Option<Cells>,
+    row: &[Value],
+) -> Result<Option<Cells>, Unsettled>
+    ensures { (w : C) → Reads (got (option_map (λ vs. assigned columns.now vs row.now) values) w)
+        result w }
+{
+    match values {
+        None => Ok(None),
+        Some(values) => assign_all::<C>(alloc, columns, values.as_slice(), row),
+    }
+}
+
+// What SET makes of a row, where these stand. None where they don't pass WHERE.
+fn set_over<'a, C: Caller>(
+    alloc: Global,
+    command: &Command<'a>,
+    columns: &[usize],
+    values: &'a [RExpr],
+    condition: &'a Option<Boxed<RExpr>>,
+    row: &[Value],
+    frame: &[Lent<'a>],
+    store: &'a Store,
+    caller: &mut C,
+) -> Result<Option<Cells>, Unsettled>
+    ensures { (inner : Sub C) → Sees C.calls command.now store.now.now.tables inner
+        → Reads (then_read (spec.read_if (setting_of C.calls inner command.now) condition.now
+        values.now (rows_of frame.now) caller.old)
+        (λ vs w. got (option_map (λ vs. assigned columns.now vs row.now) vs) w))
+        result caller.new }
+{
+    match read_if(alloc, &*command, condition, values, frame, store, caller) {
+        Ok(values) => assign_if::<C>(alloc, columns, values, row),
+        Err(why) => Err(why),
+    }
+}
+
+// What SET makes of a row. None where it doesn't pass WHERE.
+fn set_if<'a, C: Caller>(
+    alloc: Global,
+    command: &Command<'a>,
+    columns: &[usize],
+    values: &'a [RExpr],
+    condition: &'a Option<Boxed<RExpr>>,
+    row: &'a [Value],
+    store: &'a Store,
+    caller: &mut C,
+) -> Result<Option<Cells>, Unsettled>
+    ensures { (inner : Sub C) → Sees C.calls command.now store.now.now.tables inner
+        → Reads (spec.set_if (setting_of C.calls inner command.now) columns.now values.now
+        condition.now row.now caller.old)
+        result caller.new }
+{
+    let frame = stand(alloc, &*command.around, row)?;
+    set_over(
+        alloc,
+        &*command,
+        columns,
+        values,
+        condition,
+        row,
+        frame.as_slice(),
+        store,
+        caller,
+    )
+}
+
+// What SET makes of the row of this id.
+fn set_row<'a, C: Caller>(
+    alloc: Global,
+    command: &Command<'a>,
+    columns: &[usize],
+    values: &'a [RExpr],
+    condition: &'a Option<Boxed<RExpr>>,
+    id: u64,
+    store: &'a Store,
+    caller: &mut C,
+) -> Result<Option<Cells>, Unsettled>
+    ensures reads { (inner : Sub C) → Sees C.calls command.now store.now.now.tables inner
+        → Reads (spec.at_row (setting_of C.calls inner command.now)
+        (spec.set_if (setting_of C.calls inner command.now) columns.now values.now condition.now)
+        id store.now.now.tables caller.old)
+        result caller.new }
+    ensures there { OnOk result (IsSome (row_named command.now.change.now.table id
+        store.now.now.tables)) }
+{
+    match row_of(store, command.change.table, id) {
+        Some(row) => set_if(
+            alloc,
+            &*command,
+            columns,
+            values,
+            condition,
+            row.as_slice(),
+            store,
+            caller,
+        ),
+        None => Err(Unsettled::Fails(State::TRIGGERED_DATA_CHANGE_VIOLATION)),
+    }
+}
+
+// The row is written in the place of the row of this id, if there is one to write.
+fn write_if<C: Caller>(
+    alloc: Global,
+    command: &Command<'_>,
+    id: u64,
+    row: Option<Cells>,
+    store: &mut Store,
+    rows: Rows,
+    caller: &mut C,
+) -> Result<Rows, Unsettled>
+    requires { IsSome (row_named command.now.change.now.table id store.old.now.tables) }
+    ensures reads { (inner : Sub C) → Sees C.calls command.now store.old.now.tables inner
+        → Reads (spec.if_some (setting_of C.calls inner command.now)
+        (spec.writes (setting_of C.calls inner command.now) (Some id)) row
+        (progress store.old.now.tables rows) caller.old)
+        (reached result store.new.now.tables) caller.new }
+    ensures only { ChangesOnly command.now.change.now.table store.old store.new }
+{
+    match row {
+        None => Ok(rows),
+        Some(row) => write_row(alloc, &*command, Some(id), row, store, rows, caller),
+    }
+}
+
+/// UPDATE of the row of this id.
+pub(crate) fn update_row<'a, C: Caller>(
+    alloc: Global,
+    command: &Command<'a>,
+    columns: &[usize],
+    values: &'a [RExpr],
+    condition: &'a Option<Boxed<RExpr>>,
+    id: u64,
+    store: &mut Store,
+    rows: Rows,
+    caller: &mut C,
+) -> Result<Rows, Unsettled>
+    ensures reads { (inner : Sub C) → Sees C.calls command.now store.old.now.tables inner
+        → Reads (spec.updates (setting_of C.calls inner command.now) columns.now values.now
+        condition.now id (progress store.old.now.tables rows) caller.old)
+        (reached result store.new.now.tables) caller.new }
+    ensures only { ChangesOnly command.now.change.now.table store.old store.new }
+{
+    match set_row(
+        alloc,
+        &*command,
+        columns,
+        &*values,
+        &*condition,
+        id,
+        &*store,
+        caller,
+    ) {
+        Ok(row) => write_if(alloc, &*command, id, row, store, rows, caller),
+        Err(why) => Err(why),
+    }
+}
+
+// What RETURNING shows of a row. None where it doesn't pass WHERE.
+fn show_if<'a, C: Caller>(
+    alloc: Global,
+    command: &Command<'a>,
+    condition: &'a Option<Boxed<RExpr>>,
+    row: &'a [Value],
+    store: &'a Store,
+    caller: &mut C,
+) -> Result<Option<Cells>, Unsettled>
+    ensures { (inner : Sub C) → Sees C.calls command.now store.now.now.tables inner
+        → Reads (spec.shown_if (setting_of C.calls inner command.now) condition.now row.now
+        caller.old)
+        result caller.new }
+{
+    let frame = stand(alloc, &*command.around, row)?;
+    read_if(
+        alloc,
+        &*command,
+        condition,
+        command.change.returning.as_slice(),
+        frame.as_slice(),
+        store,
+        caller,
+    )
+}
+
+// What RETURNING shows of the row of this id.
+fn show_row<'a, C: Caller>(
+    alloc: Global,
+    command: &Command<'a>,
+    condition: &'a Option<Boxed<RExpr>>,
+    id: u64,
+    store: &'a Store,
+    caller: &mut C,
+) -> Result<Option<Cells>, Unsettled>
+    ensures reads { (inner : Sub C) → Sees C.calls command.now store.now.now.tables inner
+        → Reads (spec.at_row (setting_of C.calls inner command.now)
+        (spec.shown_if (setting_of C.calls inner command.now) condition.now)
+        id store.now.now.tables caller.old)
+        result caller.new }
+    ensures there { OnOk result (IsSome (row_named command.now.change.now.table id
+        store.now.now.tables)) }
+{
+    match row_of(store, command.change.table, id) {
+        Some(row) => show_if(alloc, &*command, condition, row.as_slice(), store, caller),
+        None => Err(Unsettled::Fails(State::TRIGGERED_DATA_CHANGE_VIOLATION)),
+    }
+}
+
+// Takes the row of this id out, of which this is shown.
+fn take_row<C>(
+    command: &Command<'_>,
+    id: u64,
+    shown: Cells,
+    store: &mut Store,
+    rows: Rows,
+) -> Result<Rows, Unsettled>
+    requires { IsSome (row_named command.now.change.now.table id store.old.now.tables) }
+    ensures reads { (calls : Calls C) (inner : Sub C) (w : C)
+        → Reads (spec.takes (setting_of calls inner command.now) id shown
+        (progress store.old.now.tables rows) w)
+        (reached result store.new.now.tables) w }
+    ensures only { ChangesOnly command.now.change.now.table store.old store.new }
+{
+    let mut rows = rows;
+    rows.push(shown)?;
+    store.remove(command.change.table, id)?;
+    Ok(rows)
+}
+
+// The same, if something is shown.
+fn take_if<C>(
+    command: &Command<'_>,
+    id: u64,
+    shown: Option<Cells>,
+    store: &mut Store,
+    rows: Rows,
+) -> Result<Rows, Unsettled>
+    requires { IsSome (row_named command.now.change.now.table id store.old.now.tables) }
+    ensures reads { (calls : Calls C) (inner : Sub C) (w : C)
+        → Reads (spec.if_some (setting_of calls inner command.now)
+        (spec.takes (setting_of calls inner command.now) id) shown
+        (progress store.old.now.tables rows) w)
+        (reached result store.new.now.tables) w }
+    ensures only { ChangesOnly command.now.change.now.table store.old store.new }
+{
+    match shown {
+        None => Ok(rows),
+        Some(shown) => take_row::<C>(command, id, shown, store, rows),
+    }
+}
+
+/// DELETE of the row of this id.
+pub(crate) fn delete_row<'a, C: Caller>(
+    alloc: Global,
+    command: &Command<'a>,
+    condition: &'a Option<Boxed<RExpr>>,
+    id: u64,
+    store: &mut Store,
+    rows: Rows,
+    caller: &mut C,
+) -> Result<Rows, Unsettled>
+    ensures reads { (inner : Sub C) → Sees C.calls command.now store.old.now.tables inner
+        → Reads (spec.deletes (setting_of C.calls inner command.now) condition.now id
+        (progress store.old.now.tables rows) caller.old)
+        (reached result store.new.now.tables) caller.new }
+    ensures only { ChangesOnly command.now.change.now.table store.old store.new }
+{
+    match show_row(alloc, &*command, &*condition, id, &*store, caller) {
+        Ok(shown) => take_if::<C>(command, id, shown, store, rows),
+        Err(why) => Err(why),
+    }
+}
