@@ -11,3 +11,6 @@ mod writing;
 pub use at_start::AtStart;
 pub use command::Command;
 pub use commands::change;
+
+#[cfg(test)]
+mod tests;

@@ -1,0 +1,499 @@
+//! Commands over one table, worked out by hand.
+
+ghost use Rattle.std.specs.Prelude.{◌≡◌, IsSome, true};
+ghost use Rattle.pl_tables.specs.Named.{content_named};
+
+use crate::change;
+use pl_base::{Arithmetic, Boxed, Cells, Comparison, Held, List, Name, Operator, Txt, Ty, Value};
+use pl_catalog::{Column, Object, Rule, RuleKind, TableDef};
+use pl_resolved::{
+    Aggregate, Head, RAggregate, RChain, RExpr, RGroups, RJoin, RPair, RQuery, RSource, RStep,
+};
+use pl_targets::{RChange, RRow, RRows, RWhat};
+use pl_undo::Store;
+use pl_value::{Lent, NoRoutines, Unsettled};
+use std::alloc::{AllocError, Global};
+
+/// An expression.
+#[derive(Clone, Copy)]
+enum Part {
+    Null,
+    Number(i32),
+    /// The value at a row and a column.
+    At(usize, usize),
+    /// The value there with this added.
+    Plus(usize, usize, i32),
+    /// Whether the value there is greater.
+    Above(usize, usize, i32),
+    /// (SELECT max(b) FROM t) + 1
+    Next,
+}
+
+/// A command over the table t, of the columns a and b.
+#[derive(Clone, Copy)]
+enum What {
+    /// INSERT INTO t VALUES ..
+    Values(&'static [[Part; 2]]),
+    /// INSERT INTO t SELECT a + 10, b FROM t
+    Query,
+    /// UPDATE t SET .. WHERE ..
+    Set(usize, Part, Option<Part>),
+    /// DELETE FROM t WHERE ..
+    Delete(Option<Part>),
+}
+
+/// A command with its outcome: how many rows were written, what RETURNING shows of them, and the
+/// rows of t after it; or a SQLSTATE.
+#[derive(Clone, Copy)]
+struct Case {
+    name: &'static str,
+    what: What,
+    returning: &'static [Part],
+    outcome: &'static str,
+}
+
+// The rows before each command. a is NOT NULL and UNIQUE, and b CHECK (b < 100).
+const ROWS: [[Part; 2]; 3] = [
+    [Part::Number(1), Part::Number(10)],
+    [Part::Number(2), Part::Number(20)],
+    [Part::Number(3), Part::Null],
+];
+
+const CASES: [Case; 14] = [
+    Case {
+        name: "INSERT INTO t VALUES (4, 40), (5, NULL) RETURNING b, a",
+        what: What::Values(&[
+            [Part::Number(4), Part::Number(40)],
+            [Part::Number(5), Part::Null],
+        ]),
+        returning: &[Part::At(2, 1), Part::At(2, 0)],
+        outcome: "2: 40,4;-,5 | 1,10;2,20;3,-;4,40;5,-",
+    },
+    Case {
+        name: "INSERT INTO t VALUES (4, 40)",
+        what: What::Values(&[[Part::Number(4), Part::Number(40)]]),
+        returning: &[],
+        outcome: "1:  | 1,10;2,20;3,-;4,40",
+    },
+    Case {
+        name: "INSERT INTO t VALUES (NULL, 200)",
+        what: What::Values(&[[Part::Null, Part::Number(200)]]),
+        returning: &[],
+        outcome: "23502",
+    },
+    Case {
+        name: "INSERT INTO t VALUES (1, 200)",
+        what: What::Values(&[[Part::Number(1), Part::Number(200)]]),
+        returning: &[],
+        outcome: "23514",
+    },
+    Case {
+        name: "INSERT INTO t VALUES (4, 40), (4, 41)",
+        what: What::Values(&[
+            [Part::Number(4), Part::Number(40)],
+            [Part::Number(4), Part::Number(41)],
+        ]),
+        returning: &[],
+        outcome: "23505",
+    },
+    Case {
+        name: "INSERT INTO t VALUES (4, 50), (5, (SELECT max(b) FROM t) + 1)",
+        what: What::Values(&[
+            [Part::Number(4), Part::Number(50)],
+            [Part::Number(5), Part::Next],
+        ]),
+        returning: &[],
+        outcome: "2: ; | 1,10;2,20;3,-;4,50;5,21",
+    },
+    Case {
+        name: "INSERT INTO t SELECT a + 10, b FROM t RETURNING a",
+        what: What::Query,
+        returning: &[Part::At(2, 0)],
+        outcome: "3: 11;12;13 | 1,10;2,20;3,-;11,10;12,20;13,-",
+    },
+    Case {
+        name: "UPDATE t SET b = a + 5 RETURNING a, b",
+        what: What::Set(1, Part::Plus(2, 0, 5), None),
+        returning: &[Part::At(2, 0), Part::At(2, 1)],
+        outcome: "3: 1,6;2,7;3,8 | 1,6;2,7;3,8",
+    },
+    Case {
+        name: "UPDATE t SET b = 7 WHERE b > 15",
+        what: What::Set(1, Part::Number(7), Some(Part::Above(2, 1, 15))),
+        returning: &[],
+        outcome: "1:  | 1,10;2,7;3,-",
+    },
+    Case {
+        name: "UPDATE t SET b = (SELECT max(b) FROM t) + 1",
+        what: What::Set(1, Part::Next, None),
+        returning: &[],
+        outcome: "3: ;; | 1,21;2,21;3,21",
+    },
+    Case {
+        name: "UPDATE t SET a = a + 1",
+        what: What::Set(0, Part::Plus(2, 0, 1), None),
+        returning: &[],
+        outcome: "23505",
+    },
+    Case {
+        name: "UPDATE t SET a = NULL WHERE a > 2",
+        what: What::Set(0, Part::Null, Some(Part::Above(2, 0, 2))),
+        returning: &[],
+        outcome: "23502",
+    },
+    Case {
+        name: "DELETE FROM t WHERE b > 15 RETURNING a, b",
+        what: What::Delete(Some(Part::Above(2, 1, 15))),
+        returning: &[Part::At(2, 0), Part::At(2, 1)],
+        outcome: "1: 2,20 | 1,10;3,-",
+    },
+    Case {
+        name: "DELETE FROM t",
+        what: What::Delete(None),
+        returning: &[],
+        outcome: "3: ;; | ",
+    },
+];
+
+fn chain(alloc: Global, first: RExpr, n: i32) -> Result<RExpr, AllocError> {
+    let mut steps = List::new(alloc);
+    let first = Held::new(first);
+    steps.push(RStep {
+        operator: Operator::Arithmetic(Arithmetic::Add),
+        operand: RExpr::Constant(Value::Int(n)),
+    })?;
+    Ok(RExpr::Chain(Boxed::new(
+        alloc,
+        RChain {
+            first: first.into_inner(),
+            steps,
+        },
+    )?))
+}
+
+fn expression(alloc: Global, part: Part) -> Result<RExpr, AllocError> {
+    match part {
+        Part::Null => Ok(RExpr::Constant(Value::Null)),
+        Part::Number(n) => Ok(RExpr::Constant(Value::Int(n))),
+        Part::At(row, column) => Ok(RExpr::Place { row, column }),
+        Part::Plus(row, column, n) => chain(alloc, RExpr::Place { row, column }, n),
+        Part::Above(row, column, n) => Ok(RExpr::Binary {
+            operator: Operator::Compare(Comparison::Greater),
+            operands: Boxed::new(
+                alloc,
+                RPair {
+                    first: RExpr::Place { row, column },
+                    second: RExpr::Constant(Value::Int(n)),
+                },
+            )?,
+        }),
+        Part::Next => chain(alloc, RExpr::Scalar(0), 1),
+    }
+}
+
+fn expressions(alloc: Global, parts: &[Part]) -> Result<List<RExpr>, AllocError> {
+    let mut list = List::new(alloc);
+    for part in parts {
+        list.push(expression(alloc, *part)?)?;
+    }
+    Ok(list)
+}
+
+fn boxed(alloc: Global, part: Option<Part>) -> Result<Option<Boxed<RExpr>>, AllocError> {
+    match part {
+        Some(part) => Ok(Some(Boxed::new(alloc, expression(alloc, part)?)?)),
+        None => Ok(None),
+    }
+}
+
+fn heads(alloc: Global, count: usize) -> Result<List<Head>, AllocError> {
+    let mut list = List::new(alloc);
+    for _head in 0..count {
+        list.push(Head {
+            name: Name::NONE,
+            ty: Ty::Int,
+        })?;
+    }
+    Ok(list)
+}
+
+// max(b), where the row of t stands as this one.
+fn largest(alloc: Global, row: usize) -> Result<RGroups, AllocError> {
+    let mut aggregates = List::new(alloc);
+    aggregates.push(RAggregate {
+        aggregate: Aggregate::Max,
+        arguments: expressions(alloc, &[Part::At(row, 1)])?,
+    })?;
+    Ok(RGroups {
+        keys: List::new(alloc),
+        aggregates,
+        having: None,
+    })
+}
+
+// A query over t with these items, of which there are so many.
+fn query(
+    alloc: Global,
+    table: Name,
+    groups: Option<RGroups>,
+    items: &[Part],
+) -> Result<RQuery, AllocError> {
+    let groups = Held::new(groups);
+    let mut from = List::new(alloc);
+    from.push(RJoin {
+        source: RSource::Table(table),
+        is_left: false,
+        condition: None,
+    })?;
+    let list = expressions(alloc, items)?;
+    let heads = heads(alloc, items.len())?;
+    Ok(RQuery {
+        from,
+        condition: None,
+        groups: groups.into_inner(),
+        items: list,
+        heads,
+        is_distinct: false,
+        order: List::new(alloc),
+        limit: None,
+        offset: None,
+    })
+}
+
+fn rows(alloc: Global, list: &[[Part; 2]]) -> Result<List<RRow>, AllocError> {
+    let mut rows = List::new(alloc);
+    for row in list {
+        rows.push(RRow {
+            values: expressions(alloc, row)?,
+        })?;
+    }
+    Ok(rows)
+}
+
+fn what_of(alloc: Global, what: What) -> Result<RWhat, AllocError> {
+    match what {
+        What::Values(list) => Ok(RWhat::Insert(RRows::Values(rows(alloc, list)?))),
+        What::Query => Ok(RWhat::Insert(RRows::Query {
+            query: 0,
+            values: expressions(alloc, &[Part::At(2, 0), Part::At(2, 1)])?,
+        })),
+        What::Set(column, value, condition) => {
+            let condition = boxed(alloc, condition)?;
+            Ok(RWhat::Update {
+                columns: List::from_slice(alloc, &[column])?,
+                values: expressions(alloc, &[value])?,
+                condition,
+            })
+        }
+        What::Delete(condition) => Ok(RWhat::Delete {
+            condition: boxed(alloc, condition)?,
+        }),
+    }
+}
+
+// The queries inside: only the commands that name one have it.
+fn queries_of(alloc: Global, table: Name, what: What) -> Result<List<RQuery>, AllocError> {
+    let mut list = List::new(alloc);
+    match what {
+        What::Query => {
+            list.push(query(alloc, table, None, &[Part::Plus(2, 0, 10), Part::At(2, 1)])?)?;
+        }
+        What::Values(_) => {
+            let groups = largest(alloc, 3)?;
+            list.push(query(alloc, table, Some(groups), &[Part::At(2, 0)])?)?;
+        }
+        What::Set(_, Part::Next, _) => {
+            let groups = largest(alloc, 4)?;
+            list.push(query(alloc, table, Some(groups), &[Part::At(3, 0)])?)?;
+        }
+        What::Set(_, _, _) | What::Delete(_) => {}
+    }
+    Ok(list)
+}
+
+fn command(
+    alloc: Global,
+    table: Name,
+    what: What,
+    returning: &[Part],
+) -> Result<RChange, AllocError> {
+    let queries = queries_of(alloc, table, what)?;
+    let list = expressions(alloc, returning)?;
+    let heads = heads(alloc, returning.len())?;
+    Ok(RChange {
+        table,
+        queries,
+        what: what_of(alloc, what)?,
+        returning: list,
+        heads,
+    })
+}
+
+fn table_of(alloc: Global, name: Name) -> Result<TableDef, AllocError> {
+    let text = Txt::from_slice(alloc, b"CREATE TABLE t ..")?;
+    let mut columns = List::new(alloc);
+    for is_not_null in [true, false] {
+        columns.push(Column {
+            name: Name::NONE,
+            ty: Ty::Int,
+            is_not_null,
+            default: None,
+        })?;
+    }
+    let condition = RExpr::Binary {
+        operator: Operator::Compare(Comparison::Less),
+        operands: Boxed::new(
+            alloc,
+            RPair {
+                first: RExpr::Place { row: 0, column: 1 },
+                second: RExpr::Constant(Value::Int(100)),
+            },
+        )?,
+    };
+    let condition = Held::new(condition);
+    let mut rules = List::new(alloc);
+    let unique = List::from_slice(alloc, &[0])?;
+    rules.push(Rule {
+        name: Name::NONE,
+        kind: RuleKind::Check(condition.into_inner()),
+    })?;
+    rules.push(Rule {
+        name: Name::NONE,
+        kind: RuleKind::Unique(unique),
+    })?;
+    Ok(TableDef {
+        name,
+        text,
+        columns,
+        rules,
+    })
+}
+
+fn has_table(store: &Store, name: Name) -> bool
+    ensures { result ≡ true → IsSome (content_named name store.now.now.tables) }
+{
+    store.tables().table(name).is_some()
+}
+
+// Runs the command, if the table is there.
+fn run(
+    alloc: Global,
+    table: &TableDef,
+    what: What,
+    returning: &[Part],
+    store: &mut Store,
+) -> Result<List<Cells>, Unsettled> {
+    let command = command(alloc, table.name, what, returning)?;
+    if !has_table(store, command.table) {
+        return Err(Unsettled::Memory);
+    }
+    let outer = [Lent { cells: &[] }];
+    change(alloc, &command, table, store, &outer, &mut NoRoutines)
+}
+
+fn create(store: &mut Store, table: TableDef) -> Result<(), Unsettled> {
+    match store.create(Object::Table(table)) {
+        Ok(()) => Ok(()),
+        Err(_) => Err(Unsettled::Memory),
+    }
+}
+
+fn add_value(alloc: Global, text: &mut Vec<u8>, v: &Value) -> Result<(), AllocError> {
+    match v {
+        Value::Int(n) => text.extend_from_slice(n.to_string(alloc)?.as_bytes()),
+        _ => text.extend_from_slice(b"-"),
+    }
+}
+
+fn add_row(alloc: Global, text: &mut Vec<u8>, row: &[Value]) -> Result<(), AllocError> {
+    let mut is_first = true;
+    for v in row {
+        if !is_first {
+            text.extend_from_slice(b",")?;
+        }
+        add_value(alloc, text, v)?;
+        is_first = false;
+    }
+    Ok(())
+}
+
+fn add_shown(alloc: Global, text: &mut Vec<u8>, rows: &[Cells]) -> Result<(), AllocError> {
+    let mut is_first = true;
+    for row in rows {
+        if !is_first {
+            text.extend_from_slice(b";")?;
+        }
+        add_row(alloc, text, row.as_slice())?;
+        is_first = false;
+    }
+    Ok(())
+}
+
+fn add_table(
+    alloc: Global,
+    text: &mut Vec<u8>,
+    store: &Store,
+    name: Name,
+) -> Result<(), AllocError> {
+    let Some(table) = store.tables().table(name) else {
+        return Ok(());
+    };
+    let mut is_first = true;
+    for slot in table.slots() {
+        if let Some(row) = &slot.row {
+            if !is_first {
+                text.extend_from_slice(b";")?;
+            }
+            add_row(alloc, text, row.as_slice())?;
+            is_first = false;
+        }
+    }
+    Ok(())
+}
+
+fn text_of(
+    alloc: Global,
+    shown: &[Cells],
+    store: &Store,
+    name: Name,
+) -> Result<Vec<u8>, AllocError> {
+    let mut text = Vec::new(alloc);
+    text.extend_from_slice(shown.len().to_string(alloc)?.as_bytes())?;
+    text.extend_from_slice(b": ")?;
+    add_shown(alloc, &mut text, shown)?;
+    text.extend_from_slice(b" | ")?;
+    add_table(alloc, &mut text, store, name)?;
+    Ok(text)
+}
+
+fn outcome(alloc: Global, case: &Case) -> Result<Vec<u8>, Unsettled> {
+    let table = table_of(alloc, Name::of("t").unwrap_or(Name::NONE))?;
+    let mut store = Store::new(alloc);
+    create(&mut store, table_of(alloc, table.name)?)?;
+    run(alloc, &table, What::Values(&ROWS), &[], &mut store)?;
+    let shown = run(alloc, &table, case.what, case.returning, &mut store)?;
+    Ok(text_of(alloc, shown.as_slice(), &store, table.name)?)
+}
+
+fn is_so(alloc: Global, case: &Case) -> bool {
+    match outcome(alloc, case) {
+        Ok(text) => text.as_slice() == case.outcome.as_bytes(),
+        Err(Unsettled::Fails(state)) => state.code.as_slice() == case.outcome.as_bytes(),
+        Err(Unsettled::Memory) => false,
+    }
+}
+
+// The first command with another outcome.
+fn other(alloc: Global) -> Option<&'static str> {
+    for case in &CASES {
+        if !is_so(alloc, case) {
+            return Some(case.name);
+        }
+    }
+    None
+}
+
+#[test]
+fn commands_have_their_outcomes(rt: HostRuntime) {
+    assert_eq!(rt; other(rt.alloc()), None);
+}
