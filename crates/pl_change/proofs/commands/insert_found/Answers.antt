@@ -1,4 +1,4 @@
-use Rattle.std.proofs.Common.{ap, sym, List}
+use Rattle.std.proofs.Common.{ap, sym, List, []}
 use Rattle.pl_change.proofs.OneTable.{only_same, only_then, still_sees}
 use Rattle.pl_change.proofs.Turns.{front, turn_goes, turn_stops}
 use Rattle.pl_change.specs.Changes.{adds_found, progress}
@@ -20,7 +20,8 @@ loop-row-preserved g c =
     let was = c.loop-row.invariant in
     record {
       reads = λ inner sees.
-          turn_goes (adds_found (setting_of g.C.Caller.calls inner c.args.command.now) c.args.values.now) c.args.found.now c.loop-row.row-index c.row-item.result (front c.args.found.now c.loop-row.row-index c.row-item.result c.loop-row-test.true c.row-item.is) _
+          turn_goes (adds_found (setting_of g.C.Caller.calls inner c.args.command.now) c.args.values.now) c.args.found.now c.loop-row.row-index c.row-item.result (front c.args.found.now c.loop-row.row-index c.row-item.result c.loop-row-test.true c.row-item.is)
+          (in_turn (adds_found (setting_of g.C.Caller.calls inner c.args.command.now) c.args.values.now) c.args.found.now (progress c.args.store.now.now.tables []) c.args.caller.now)
           (progress c.loop-row.store.now.tables c.loop-row.rows) (progress c.insert_one.new.store.now.tables c.in-Ok.more) c.loop-row.caller c.insert_one.new.caller (was.reads inner sees)
           (c.in-Ok.ensures.reads inner (still_sees g.C.Caller.calls c.args.command.now c.args.store.now c.loop-row.store inner was.only sees));
       only = only_then name c.args.store.now c.loop-row.store c.insert_one.new.store was.only c.in-Ok.ensures.only;
@@ -32,7 +33,8 @@ returns-in-Err g c =
     let was = c.loop-row.invariant in
     record {
       reads = λ inner sees.
-          turn_stops (adds_found (setting_of g.C.Caller.calls inner c.args.command.now) c.args.values.now) c.args.found.now c.loop-row.row-index c.row-item.result (front c.args.found.now c.loop-row.row-index c.row-item.result c.loop-row-test.true c.row-item.is) _
+          turn_stops (adds_found (setting_of g.C.Caller.calls inner c.args.command.now) c.args.values.now) c.args.found.now c.loop-row.row-index c.row-item.result (front c.args.found.now c.loop-row.row-index c.row-item.result c.loop-row-test.true c.row-item.is)
+          (in_turn (adds_found (setting_of g.C.Caller.calls inner c.args.command.now) c.args.values.now) c.args.found.now (progress c.args.store.now.now.tables []) c.args.caller.now)
           (progress c.loop-row.store.now.tables c.loop-row.rows) c.loop-row.caller c.insert_one.new.caller c.in-Err.why (was.reads inner sees)
           (c.in-Err.ensures.reads inner (still_sees g.C.Caller.calls c.args.command.now c.args.store.now c.loop-row.store inner was.only sees));
       only = only_then name c.args.store.now c.loop-row.store c.insert_one.new.store was.only c.in-Err.ensures.only;

@@ -1,4 +1,4 @@
-use Rattle.std.proofs.Common.{◌∙◌, ap, sym, List, Err}
+use Rattle.std.proofs.Common.{◌∙◌, ap, sym, List, [], Err}
 use Rattle.pl_change.proofs.OneTable.{only_same, only_then, still_sees}
 use Rattle.pl_change.proofs.Turns.{front, same_reads, turn_goes, turn_stops}
 use Rattle.pl_change.specs.Changes.{Progress, adds, adds_values, progress}
@@ -22,7 +22,8 @@ loop-row-preserved g c =
     record {
       reads = λ inner sees.
           let s = setting_of g.C.Caller.calls inner c.args.command.now in
-          turn_goes (adds_values s) c.args.list.now c.loop-row.row-index c.row-item.result (front c.args.list.now c.loop-row.row-index c.row-item.result c.loop-row-test.true c.row-item.is) _
+          turn_goes (adds_values s) c.args.list.now c.loop-row.row-index c.row-item.result (front c.args.list.now c.loop-row.row-index c.row-item.result c.loop-row-test.true c.row-item.is)
+          (in_turn (adds_values s) c.args.list.now (progress c.args.store.now.now.tables []) c.args.caller.now)
           (progress c.loop-row.store.now.tables c.loop-row.rows) (progress c.add_row.new.store.now.tables c.in-Ok.more) c.loop-row.caller c.add_row.new.caller (was.reads inner sees)
           (ap (λ (list : List RExpr). adds s list s.around (progress c.loop-row.store.now.tables c.loop-row.rows) c.loop-row.caller) (sym c.as_slice.ensures)
           ∙ c.in-Ok.ensures.reads inner (still_sees g.C.Caller.calls c.args.command.now c.args.store.now c.loop-row.store inner was.only sees));
@@ -37,7 +38,8 @@ returns-in-Err g c =
       reads = λ inner sees.
           let s = setting_of g.C.Caller.calls inner c.args.command.now in
           let p = progress c.loop-row.store.now.tables c.loop-row.rows in
-          turn_stops (adds_values s) c.args.list.now c.loop-row.row-index c.row-item.result (front c.args.list.now c.loop-row.row-index c.row-item.result c.loop-row-test.true c.row-item.is) _
+          turn_stops (adds_values s) c.args.list.now c.loop-row.row-index c.row-item.result (front c.args.list.now c.loop-row.row-index c.row-item.result c.loop-row-test.true c.row-item.is)
+          (in_turn (adds_values s) c.args.list.now (progress c.args.store.now.now.tables []) c.args.caller.now)
           p c.loop-row.caller c.add_row.new.caller c.in-Err.why (was.reads inner sees)
           (same_reads {A = Progress} (adds_values s c.row-item.result p c.loop-row.caller) (adds s c.as_slice.result.now s.around p c.loop-row.caller) (Err c.in-Err.why) c.add_row.new.caller
           (ap (λ (list : List RExpr). adds s list s.around p c.loop-row.caller) (sym c.as_slice.ensures))

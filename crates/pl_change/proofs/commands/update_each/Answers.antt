@@ -1,4 +1,4 @@
-use Rattle.std.proofs.Common.{ap, sym, get_or, List}
+use Rattle.std.proofs.Common.{ap, sym, get_or, List, []}
 use Rattle.std.proofs.lemmas.List.{drop_more}
 use Rattle.pl_change.proofs.OneTable.{only_same, only_then, still_sees}
 use Rattle.pl_change.proofs.Turns.{turn_goes, turn_stops}
@@ -21,7 +21,8 @@ loop-id-preserved g c =
     let was = c.loop-id.invariant in
     record {
       reads = λ inner sees.
-          turn_goes (updates (setting_of g.C.Caller.calls inner c.args.command.now) c.args.columns.now c.args.values.now c.args.condition.now) c.args.ids.now c.loop-id.id-index (get_or c.args.ids.now c.loop-id.id-index 0) (drop_more c.args.ids.now c.loop-id.id-index 0 c.loop-id-test.true) _
+          turn_goes (updates (setting_of g.C.Caller.calls inner c.args.command.now) c.args.columns.now c.args.values.now c.args.condition.now) c.args.ids.now c.loop-id.id-index (get_or c.args.ids.now c.loop-id.id-index 0) (drop_more c.args.ids.now c.loop-id.id-index 0 c.loop-id-test.true)
+          (in_turn (updates (setting_of g.C.Caller.calls inner c.args.command.now) c.args.columns.now c.args.values.now c.args.condition.now) c.args.ids.now (progress c.args.store.now.now.tables []) c.args.caller.now)
           (progress c.loop-id.store.now.tables c.loop-id.rows) (progress c.update_row.new.store.now.tables c.in-Ok.more) c.loop-id.caller c.update_row.new.caller (was.reads inner sees)
           (c.in-Ok.ensures.reads inner (still_sees g.C.Caller.calls c.args.command.now c.args.store.now c.loop-id.store inner was.only sees));
       only = only_then name c.args.store.now c.loop-id.store c.update_row.new.store was.only c.in-Ok.ensures.only;
@@ -33,7 +34,8 @@ returns-in-Err g c =
     let was = c.loop-id.invariant in
     record {
       reads = λ inner sees.
-          turn_stops (updates (setting_of g.C.Caller.calls inner c.args.command.now) c.args.columns.now c.args.values.now c.args.condition.now) c.args.ids.now c.loop-id.id-index (get_or c.args.ids.now c.loop-id.id-index 0) (drop_more c.args.ids.now c.loop-id.id-index 0 c.loop-id-test.true) _
+          turn_stops (updates (setting_of g.C.Caller.calls inner c.args.command.now) c.args.columns.now c.args.values.now c.args.condition.now) c.args.ids.now c.loop-id.id-index (get_or c.args.ids.now c.loop-id.id-index 0) (drop_more c.args.ids.now c.loop-id.id-index 0 c.loop-id-test.true)
+          (in_turn (updates (setting_of g.C.Caller.calls inner c.args.command.now) c.args.columns.now c.args.values.now c.args.condition.now) c.args.ids.now (progress c.args.store.now.now.tables []) c.args.caller.now)
           (progress c.loop-id.store.now.tables c.loop-id.rows) c.loop-id.caller c.update_row.new.caller c.in-Err.why (was.reads inner sees)
           (c.in-Err.ensures.reads inner (still_sees g.C.Caller.calls c.args.command.now c.args.store.now c.loop-id.store inner was.only sees));
       only = only_then name c.args.store.now c.loop-id.store c.update_row.new.store was.only c.in-Err.ensures.only;
