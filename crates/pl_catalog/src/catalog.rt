@@ -11,7 +11,7 @@ use crate::dependents::first_dependent;
 use crate::entries::{
     Entry, Step, bring_back, place_of, pop_entry, purge, routine_among, table_among, take_out,
 };
-use crate::{Object, Routine, TableDef, Which};
+use crate::{Object, Objects, Routine, TableDef, Which};
 use pl_base::{Held, Name};
 use std::alloc::{AllocError, Global};
 use std::marker::Model;
@@ -81,6 +81,13 @@ impl Catalog {
         ensures { result ≡ length self.now.past }
     {
         self.steps.len()
+    }
+
+    /// Lends the objects one after the other, in the order in which they were created.
+    pub fn objects(&self) -> Objects<'_>
+        ensures { result ≡ self.now.objects }
+    {
+        Objects::new(self.entries.as_slice())
     }
 
     /// The table of this name. None where there is none.

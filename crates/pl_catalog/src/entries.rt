@@ -1,6 +1,7 @@
 //! The objects of a catalogue, with those that were dropped.
 
-ghost use Rattle.std.specs.Prelude.{◌≡◌, ◌<◌, ◌-◌, length, take, true, false};
+ghost use Rattle.std.specs.Prelude.{◌≡◌, ◌<◌, ◌-◌, ◌∷◌, [], length, take, true, false};
+ghost use Rattle.std.specs.Prelude.{IfNone, IfSome};
 ghost use Rattle.std.specs.List.{position};
 ghost use Rattle.std.specs.Option.{option_copied};
 ghost use Rattle.pl_catalog.specs.Entries.{gone, is_at, there, with_entry};
@@ -63,6 +64,21 @@ pub(crate) fn routine_among(mut entries: &[Entry], name: Name) -> Option<&Routin
                     return Some(routine);
                 }
             }
+        }
+        entries = rest;
+    }
+    None
+}
+
+/// The first object that is there, and the entries behind it. None where no object is there.
+pub(crate) fn first_there(mut entries: &[Entry]) -> Option<(&Object, &[Entry])>
+    ensures found { IfSome result (λ found.
+        there entries.entry.now ≡ found.0.now ∷ there found.1.now) }
+    ensures none { IfNone result (there entries.entry.now ≡ []) }
+{
+    while let [entry, rest @ ..] = entries {
+        if entry.is_there {
+            return Some((&entry.object, rest));
         }
         entries = rest;
     }

@@ -4,9 +4,11 @@
 mod catalog;
 mod dependents;
 mod entries;
+mod lending;
 mod object;
 
 pub use catalog::{Catalog, CatalogFail};
+pub use lending::Objects;
 pub use object::{
     Column, Events, Heading, Object, Routine, Rule, RuleKind, TableDef, TriggerDef, Which,
 };

@@ -1,6 +1,8 @@
 //! Each call once.
 
-use crate::{Catalog, CatalogFail, Events, Heading, Object, Routine, TableDef, TriggerDef, Which};
+use crate::{
+    Catalog, CatalogFail, Events, Heading, Object, Objects, Routine, TableDef, TriggerDef, Which,
+};
 use pl_base::{List, Name, Txt};
 use pl_tree::{ResultType, RoutineKind};
 use std::alloc::{AllocError, Global};
@@ -152,5 +154,26 @@ fn dropped_objects_come_back(rt: HostRuntime) -> Result<(), Fail> {
     assert_eq!(rt; catalog.changes(), 0);
     catalog.undo();
     assert!(rt; catalog.table(t).is_some());
+    Ok(())
+}
+
+// Whether the next object that is lent has this name.
+fn lends(objects: &mut Objects<'_>, name: Name) -> bool {
+    match objects.lend() {
+        Some(object) => object.name() == name,
+        None => false,
+    }
+}
+
+#[test]
+fn objects_are_lent_in_order(rt: HostRuntime) -> Result<(), Fail> {
+    let mut catalog = filled(rt.alloc())?;
+    let (t, f, g) = (named("t")?, named("f")?, named("g")?);
+    let trigger = Which::Trigger { table: t, name: g };
+    assert!(rt; refusal(&mut catalog, trigger).is_none());
+    let mut objects = catalog.objects();
+    assert!(rt; lends(&mut objects, t));
+    assert!(rt; lends(&mut objects, f));
+    assert!(rt; objects.lend().is_none());
     Ok(())
 }
