@@ -10,5 +10,5 @@ mod tests;
 mod values;
 
 pub use operations::decode_all;
-pub use payload::{encode, encode_all};
+pub use payload::{encode, encode_all, push_define, push_next, push_put, push_remove};
 pub use storable::{is_define_text, is_table_name, is_text};

@@ -48,7 +48,8 @@ fn push_op(bytes: &mut Vec<u8>, op: &Op) -> Result<(), AllocError>
     }
 }
 
-fn push_define(bytes: &mut Vec<u8>, text: &[u8]) -> Result<(), AllocError>
+/// Puts the spelling of a Define of this text behind the bytes.
+pub fn push_define(bytes: &mut Vec<u8>, text: &[u8]) -> Result<(), AllocError>
     requires { is_define_text text.now ≡ true }
     ensures spelled { OnOk result (
         bytes.new.items ≡ bytes.old.items ++ op_bytes (Define text.now)) }
@@ -59,7 +60,8 @@ fn push_define(bytes: &mut Vec<u8>, text: &[u8]) -> Result<(), AllocError>
     Ok(())
 }
 
-fn push_put(bytes: &mut Vec<u8>, table: &Name, id: u64, row: &[Value]) -> Result<(), AllocError>
+/// Puts the spelling of a Put of this row behind the bytes.
+pub fn push_put(bytes: &mut Vec<u8>, table: &Name, id: u64, row: &[Value]) -> Result<(), AllocError>
     requires named { is_table_name table.now ≡ true }
     requires numbered { is_row_id id ≡ true }
     requires counted { length row.now < 256 }
@@ -76,7 +78,8 @@ fn push_put(bytes: &mut Vec<u8>, table: &Name, id: u64, row: &[Value]) -> Result
     Ok(())
 }
 
-fn push_remove(bytes: &mut Vec<u8>, table: &Name, id: u64) -> Result<(), AllocError>
+/// Puts the spelling of a Remove of the row of this id behind the bytes.
+pub fn push_remove(bytes: &mut Vec<u8>, table: &Name, id: u64) -> Result<(), AllocError>
     requires { is_table_name table.now ≡ true }
     ensures spelled { OnOk result (
         bytes.new.items ≡ bytes.old.items ++ op_bytes (Remove table.now id)) }
@@ -88,7 +91,8 @@ fn push_remove(bytes: &mut Vec<u8>, table: &Name, id: u64) -> Result<(), AllocEr
     Ok(())
 }
 
-fn push_next(bytes: &mut Vec<u8>, table: &Name, next: u64) -> Result<(), AllocError>
+/// Puts the spelling of a Next, the id of the next new row, behind the bytes.
+pub fn push_next(bytes: &mut Vec<u8>, table: &Name, next: u64) -> Result<(), AllocError>
     requires { is_table_name table.now ≡ true }
     ensures spelled { OnOk result (
         bytes.new.items ≡ bytes.old.items ++ op_bytes (Next table.now next)) }
