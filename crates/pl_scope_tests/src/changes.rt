@@ -1,5 +1,5 @@
-//! Changes of tables with the places that names become, worked out by hand. Each SQLSTATE is the one
-//! that a PostgreSQL server gives, unless two failures stand in a change.
+//! Changes of tables with the places that names become, worked out by hand. Each SQLSTATE but 54011
+//! is the one that a PostgreSQL server gives, unless two failures stand in a change.
 
 use crate::places::{is, items_of, state};
 use crate::tables::{catalog_with_defaults, no_scope};
@@ -41,7 +41,9 @@ UPDATE t SET b = s  ->  42804
 UPDATE t SET a = true, s = z  ->  42804
 UPDATE t SET a = true WHERE z  ->  42804
 UPDATE t SET a = z, z = 1  ->  42703
-UPDATE t SET a = missing.q, a = 1  ->  42601
+UPDATE t SET a = missing.q, a = 1  ->  42P01
+UPDATE t SET a = nofun(1), z = 1  ->  42883
+UPDATE t SET z = nofun(1)  ->  42703
 UPDATE t x SET a = t.a  ->  42P01
 UPDATE t SET a = count(*)  ->  42803
 UPDATE t SET a = 1 WHERE z RETURNING missing.*  ->  42703

@@ -1,8 +1,9 @@
 -- What INSERT, UPDATE and DELETE mean: PostgreSQL manual, "INSERT", "UPDATE", "DELETE". The table
--- is read first, then the columns, the values, WHERE, RETURNING.
+-- is read first, then the columns of an INSERT and its values, or what SET says from left to right,
+-- WHERE, RETURNING.
 use Rattle.std.specs.Option.{option_map}
-use Rattle.std.specs.Prelude.{ℕ, map, List, [], Option, Ok, Err}
-use Rattle.pl_base.specs.States.{DUPLICATE_COLUMN, SYNTAX_ERROR}
+use Rattle.std.specs.Prelude.{map, List, [], Option, Ok, Err}
+use Rattle.pl_base.specs.States.{DUPLICATE_COLUMN}
 use Rattle.pl_catalog.specs.declared.object.Column.{Column}
 use Rattle.pl_catalog.specs.declared.object.Object.{Object}
 use Rattle.pl_names.specs.Names.{Name, Around}
@@ -17,12 +18,11 @@ use Rattle.pl_scope.specs.Queries.{items_on}
 use Rattle.pl_scope.specs.Resolution.{part, item_part, standing, nothing_made}
 use Rattle.pl_scope.specs.Steps.{first_row, plain_in}
 use Rattle.pl_targets.specs.Columns.{columns_of, places_on}
-use Rattle.pl_targets.specs.Values.{rows_of, values_on}
+use Rattle.pl_targets.specs.Values.{nothing_set, rows_of, settings_on}
 use Rattle.pl_targets.specs.declared.change.RChange.{RChange}
 use Rattle.pl_targets.specs.declared.change.RWhat.{RWhat}
 use Rattle.pl_targets.specs.declared.change.RWhat.TheVariants as what
 use Rattle.pl_targets.specs.declared.resolve.Changed.{Changed}
-use Rattle.pl_tree.specs.declared.command.Assignment.{Assignment}
 use Rattle.pl_tree.specs.declared.command.Delete.{Delete}
 use Rattle.pl_tree.specs.declared.command.Insert.{Insert}
 use Rattle.pl_tree.specs.declared.command.Update.{Update}
@@ -65,21 +65,15 @@ delete_means d = with_target d.table d.alias (λ columns sources.
 
 -- ---- UPDATE
 
-abbrev pub column_set : Assignment → Name
-column_set s = s.column
-
-abbrev pub update_in : Update → List ℕ → List Column → List Source → Means Changed
-update_in u places columns sources =
-    values_on u.assignments columns [] >>= (λ values.
+abbrev pub update_in : Update → List Column → List Source → Means Changed
+update_in u columns sources =
+    settings_on u.assignments columns nothing_set >>= (λ set.
     maybe_condition (option_map part u.condition) >>= (λ condition.
     returning u.returning sources >>= (λ items.
-    gives (changed (what.Update places values condition) items))))
+    gives (changed (what.Update set.columns set.values condition) items))))
 
--- a column is set once
 abbrev pub update_on : Update → List Column → List Source → Means Changed
-update_on u columns sources =
-    step (places_on SYNTAX_ERROR (map column_set u.assignments) columns []) >>= (λ places.
-    within (plain_in sources) (update_in u places columns sources))
+update_on u columns sources = within (plain_in sources) (update_in u columns sources)
 
 abbrev pub update_means : Update → Means Changed
 update_means u = with_target u.table u.alias (update_on u)

@@ -11,11 +11,12 @@ use Rattle.pl_scope.specs.Parts.{QueryPart}
 use Rattle.pl_scope.specs.Resolution.{part, query_part}
 use Rattle.pl_scope.specs.Steps.{first_row, plain_in}
 use Rattle.pl_scope.specs.declared.made.Inner.{Inner}
-use Rattle.pl_targets.specs.Columns.{column_named, defaults, given}
+use Rattle.pl_targets.specs.Columns.{column_named, defaults, given, place_of, with_place}
 use Rattle.pl_targets.specs.Placing.{assigned_to, default_for, items_of, placed_on}
 use Rattle.pl_targets.specs.declared.change.RRow.{RRow}
 use Rattle.pl_targets.specs.declared.change.RRows.{RRows}
 use Rattle.pl_targets.specs.declared.change.RRows.TheVariants as rows
+use Rattle.pl_targets.specs.declared.values.Settings.{Settings}
 use Rattle.pl_tree.specs.declared.command.Assignment.{Assignment}
 use Rattle.pl_tree.specs.declared.command.NewRow.{NewRow}
 use Rattle.pl_tree.specs.declared.command.NewRows.{NewRows}
@@ -31,11 +32,21 @@ value_for c value.Default = step (default_for c)
 
 -- ---- SET
 
-abbrev pub values_on : List Assignment → List Column → List RExpr → Means (List RExpr)
-values_on [] columns done = gives done
-values_on (s ∷ ss) columns done =
+abbrev pub nothing_set : Settings
+nothing_set = record { columns = []; values = [] }
+
+-- one more column, which is set once, and then its value
+abbrev pub with_setting : Assignment → List Column → Settings → Means Settings
+with_setting s columns done =
+    step (with_place SYNTAX_ERROR (place_of s.column 0 columns) done.columns) >>= (λ places.
     value_for (column_named s.column columns) s.value >>= (λ x.
-    values_on ss columns (done ++ x ∷ []))
+    gives (record { columns = places; values = done.values ++ x ∷ [] })))
+
+-- behind those there are
+abbrev pub settings_on : List Assignment → List Column → Settings → Means Settings
+settings_on [] columns done = gives done
+settings_on (s ∷ ss) columns done =
+    with_setting s columns done >>= (λ done. settings_on ss columns done)
 
 -- ---- VALUES
 

@@ -8,7 +8,7 @@ ghost use Rattle.pl_targets.specs.Changes as spec;
 ghost use Rattle.pl_typing.specs.Resolved.{Gives};
 
 use crate::columns::places_of;
-use crate::values::{end_of, places_set, rows_of, values_set};
+use crate::values::{end_of, rows_of, settings_of};
 use crate::{RChange, RWhat};
 use pl_base::{List, Name, State};
 use pl_catalog::{Catalog, Column};
@@ -93,21 +93,20 @@ fn update_in(
     alloc: Global,
     u: &Update,
     columns: &[Column],
-    places: List<usize>,
     sources: &[Source],
     names: &Names<'_>,
     made: &mut Made,
 ) -> Result<Changed, ScopeFail>
-    ensures { Meets (spec.update_in u.now places columns.now sources.now (around names.now)
-        made.old) result made.new }
+    ensures { Meets (spec.update_in u.now columns.now sources.now (around names.now) made.old)
+        result made.new }
 {
-    let values = values_set(alloc, u.assignments.as_slice(), columns, names, made)?;
+    let set = settings_of(alloc, u.assignments.as_slice(), columns, names, made)?;
     let condition = maybe_condition(alloc, &u.condition, names, made)?;
     let items = items_on(alloc, u.returning.as_slice(), sources, names, made)?;
     Ok(Changed {
         what: RWhat::Update {
-            columns: places,
-            values,
+            columns: set.columns,
+            values: set.values,
             condition,
         },
         items,
@@ -125,7 +124,6 @@ fn update_on(
     ensures { Meets (spec.update_on u.now columns.now sources.now (around names.now) made.old)
         result made.new }
 {
-    let places = places_set(alloc, u.assignments.as_slice(), columns)?;
     let end = end_of(names, sources.as_slice())?;
     let levels = entered(alloc, names.levels, &*sources, false)?;
     let inner = inside(
@@ -136,7 +134,7 @@ fn update_on(
         names.next_row,
         false,
     );
-    update_in(alloc, u, columns, places, sources.as_slice(), &inner, made)
+    update_in(alloc, u, columns, sources.as_slice(), &inner, made)
 }
 
 fn update(
@@ -250,9 +248,10 @@ pub fn resolve_insert(
     Ok(whole(i.table, changed, made))
 }
 
-/// The UPDATE with places in place of names. 42P01 where there is no such table; of its columns
-/// 42703 where there is none of a name and 42601 where one is set twice; 42804 where a value can't
-/// be assigned to its column; else the SQLSTATE of the first failing node in reading order.
+/// The UPDATE with places in place of names. 42P01 where there is no such table; of what it sets,
+/// from left to right, 42703 where there is no column of the name and 42601 where it is set twice,
+/// then its value, and 42804 where that can't be assigned to the column; else the SQLSTATE of the
+/// first failing node in reading order.
 pub fn resolve_update(
     alloc: Global,
     catalog: &Catalog,

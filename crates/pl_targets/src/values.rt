@@ -1,14 +1,12 @@
 //! The values that columns are given: PostgreSQL manual, "INSERT", "UPDATE".
 
 ghost use Rattle.std.specs.Option.{option_copied};
-ghost use Rattle.std.specs.Prelude.{◌≡◌, ◌+◌, ◌<◌, ◌^◌, [], length, map, slice_get, IfOk};
-ghost use Rattle.pl_base.specs.States.{SYNTAX_ERROR};
+ghost use Rattle.std.specs.Prelude.{◌≡◌, ◌+◌, ◌<◌, ◌^◌, [], length, slice_get, IfOk};
 ghost use Rattle.pl_names.specs.Names.{around};
 ghost use Rattle.pl_scope.specs.Answers.{Meets};
 ghost use Rattle.pl_scope.specs.Resolution.{query_part};
 ghost use Rattle.pl_scope.specs.Steps.{first_row};
-ghost use Rattle.pl_targets.specs.Changes.{column_set};
-ghost use Rattle.pl_targets.specs.Columns.{defaults, places_on};
+ghost use Rattle.pl_targets.specs.Columns.{defaults};
 ghost use Rattle.pl_targets.specs.Placing.{items_of, placed_on};
 ghost use Rattle.pl_targets.specs.Values as spec;
 ghost use Rattle.pl_typing.specs.Resolved.{Gives};
@@ -56,39 +54,59 @@ fn value_for(
 
 // ---- SET
 
-/// The places of the columns that are set. 42703 where there is no such column, 42601 where one is
-/// set twice.
-pub fn places_set(
-    alloc: Global,
-    assignments: &[Assignment],
-    columns: &[Column],
-) -> Result<List<usize>, ScopeFail>
-    ensures { Gives result (places_on SYNTAX_ERROR (map column_set assignments.now) columns.now
-        []) }
-{
-    let mut places = List::new(alloc);
-    for assignment in assignments {
-        places = with_named(State::SYNTAX_ERROR, assignment.column, columns, places)?;
-    }
-    Ok(places)
+/// The columns that are set, and the value of each.
+#[derive(Drop)]
+pub struct Settings {
+    /// Their places in the table, from 0.
+    pub columns: List<usize>,
+    pub values: List<RExpr>,
 }
 
-/// The values that columns are set to, from left to right.
-pub fn values_set(
+// One more column, and then its value.
+fn with_setting(
+    alloc: Global,
+    assignment: &Assignment,
+    columns: &[Column],
+    done: Settings,
+    names: &Names<'_>,
+    made: &mut Made,
+) -> Result<Settings, ScopeFail>
+    ensures { Meets (spec.with_setting assignment.now columns.now done (around names.now) made.old)
+        result made.new }
+{
+    let Settings {
+        columns: places,
+        values,
+    } = done;
+    let places = with_named(State::SYNTAX_ERROR, assignment.column, columns, places)?;
+    let column = column_named(assignment.column, columns);
+    let value = value_for(alloc, &assignment.value, column, names, made)?;
+    let mut values = values;
+    values.push(value.into_inner())?;
+    Ok(Settings {
+        columns: places,
+        values,
+    })
+}
+
+/// What SET says, from left to right. 42703 where there is no such column, 42601 where one is set
+/// twice; both come before the failures of its value.
+pub fn settings_of(
     alloc: Global,
     assignments: &[Assignment],
     columns: &[Column],
     names: &Names<'_>,
     made: &mut Made,
-) -> Result<List<RExpr>, ScopeFail>
-    ensures { Meets (spec.values_on assignments.now columns.now [] (around names.now) made.old)
-        result made.new }
+) -> Result<Settings, ScopeFail>
+    ensures { Meets (spec.settings_on assignments.now columns.now spec.nothing_set
+        (around names.now) made.old) result made.new }
 {
-    let mut done = List::new(alloc);
+    let mut done = Settings {
+        columns: List::new(alloc),
+        values: List::new(alloc),
+    };
     for assignment in assignments {
-        let column = column_named(assignment.column, columns);
-        let value = value_for(alloc, &assignment.value, column, names, made)?;
-        done.push(value.into_inner())?;
+        done = with_setting(alloc, assignment, columns, done, names, made)?;
     }
     Ok(done)
 }
