@@ -1,4 +1,3 @@
-mod OneTable
-mod Slots
-mod Taken
+mod Assigned
+mod Snapshots
 mod Turns

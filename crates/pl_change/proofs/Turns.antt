@@ -1,14 +1,18 @@
 -- Readings of a command that go on.
-use Rattle.std.proofs.Common.{◌≡◌, ◌<◌, ◌+◌, ℕ, List, [], ◌∷◌, ◌++◌, map, drop, get_or, length, Option, Some, None, Result, Ok, Err, refl, sym, ap, ◌∙◌, subst, add-one, drop-cons}
+use Rattle.std.proofs.Common.{◌≡◌, ◌<◌, ◌≤◌, ◌+◌, ℕ, List, [], ◌∷◌, ◌++◌, map, drop, get_or, length, Option, Some, None, Result, Ok, Err, refl, sym, ap, ◌∙◌, subst, add-one, drop-cons}
+use Rattle.std.proofs.lemmas.List.{drop_all}
 use Rattle.std.specs.Prelude.{OnOk}
 use Rattle.pl_base.specs.States.{TRIGGERED_DATA_CHANGE_VIOLATION}
 use Rattle.pl_base.specs.declared.state.State.{State}
-use Rattle.pl_change.specs.Changes.{Progress, Setting, at_row, if_there, progress, state_of, told, unless_broken, writes, written}
-use Rattle.pl_change.specs.Running.{reached, Judged, Leads}
-use Rattle.pl_rules.specs.declared.rules.RuleFail.{RuleFail}
+use Rattle.pl_catalog.specs.declared.object.Object.{Object}
+use Rattle.pl_change.specs.Changes.{Progress, Setting, at_row, if_there, progress, told, writes}
+use Rattle.pl_change.specs.Running.{reached}
+use Rattle.pl_journal.specs.Journal.{Leads}
+use Rattle.pl_journal.specs.Writing.{written}
 use Rattle.pl_tables.specs.Named.{Named, row_named}
 use Rattle.pl_query.specs.Rows.{in_turn}
 use Rattle.pl_resolved.specs.declared.expression.RExpr.{RExpr}
+use Rattle.pl_undo.specs.Database.{Database}
 use Rattle.pl_value.specs.Answers.{Reads}
 use Rattle.pl_value.specs.Frames.{Frame, Row}
 use Rattle.pl_value.specs.Meaning.{Calls, Sub, value, values}
@@ -33,6 +37,10 @@ module _ {W A : Type 0} (adds : A → Progress → W → Reading W Progress) (xs
       reads ∙ (ap (λ (ys : List A). in_turn adds ys p w) is
       ∙ ap (λ (q : Reading W Progress). then_read q (λ p w. in_turn adds (drop (i + 1) xs) p w)) gives)
 
+  -- all were done
+  pub turn_ends : length xs ≤ i → (whole : Reading W Progress) (p : Progress) (w : W) → whole ≡ in_turn adds (drop i xs) p w → whole ≡ got p w
+  turn_ends le whole p w reads = reads ∙ ap (λ (ys : List A). in_turn adds ys p w) (drop_all i xs le)
+
   -- one failed
   pub turn_stops : (x : A) → drop i xs ≡ x ∷ drop (i + 1) xs → (whole : Reading W Progress) (p : Progress) (w new : W) (why : Unsettled) → whole ≡ in_turn adds (drop i xs) p w
       → Reads {A = Progress} (adds x p w) (Err why) new → Reads {A = Progress} whole (Err why) new
@@ -49,19 +57,22 @@ module _ {W : Type 0} (s : Setting W) where
   told_same copied row p w is =
       ap (λ (q : Reading W Row). then_read q (λ shown w. got (progress p.tables (p.returned ++ shown ∷ [])) w)) (sym (values_same s.calls s.inner s.change.returning s.around copied row w is))
 
-  -- a row was written, and shown by its copy
-  pub wrote : (id : Option ℕ) (copied row : Row) (before after : List Named) (rows : List Row) (w new : W) (r : Result (List Row) Unsettled)
-      → ((e : RExpr) (more : List RExpr) → s.change.returning ≡ e ∷ more → copied ≡ row) → written s.table s.change.table id row before ≡ Ok after
-      → Reads {A = Progress} (told s copied (progress after rows) w) (reached r after) new → Reads {A = Progress} (writes s id row (progress before rows) w) (reached r after) new
-  wrote id copied row before after rows w new r is leads reads =
-      same_reads (writes s id row (progress before rows) w) (told s copied (progress after rows) w) (reached r after) new
-      (ap (λ (o : Result (List Named) State). then_read (settled o w) (λ tables w. told s row (progress tables rows) w)) leads ∙ told_same copied row (progress after rows) w is) reads
+  -- a row was written by the rules of these objects, and shown by its copy
+  pub wrote : (id : Option ℕ) (copied row : Row) (before : Database) (after : List Named) (rows : List Row) (w new : W) (r : Result (List Row) Unsettled)
+      → ((e : RExpr) (more : List RExpr) → s.change.returning ≡ e ∷ more → copied ≡ row) → s.objects ≡ before.objects → written before.objects s.change.table id row before.tables ≡ Ok after
+      → Reads {A = Progress} (told s copied (progress after rows) w) (reached r after) new → Reads {A = Progress} (writes s id row (progress before.tables rows) w) (reached r after) new
+  wrote id copied row before after rows w new r is same leads reads =
+      same_reads (writes s id row (progress before.tables rows) w) (told s copied (progress after rows) w) (reached r after) new
+      (ap (λ (os : List Object). then_read (settled (written os s.change.table id row before.tables) w) (λ tables w. told s row (progress tables rows) w)) same
+      ∙ (ap (λ (o : Result (List Named) State). then_read (settled o w) (λ tables w. told s row (progress tables rows) w)) leads ∙ told_same copied row (progress after rows) w is)) reads
 
   -- it wasn't
-  pub refused : (A : Type 0) (id : Option ℕ) (row : Row) (before after : List Named) (rows : List Row) (w : W) (why : Unsettled)
-      → Leads {A = A} (written s.table s.change.table id row before) (Err why) after → Reads {A = Progress} (writes s id row (progress before rows) w) (Err why) w
-  refused A id row before after rows w (Fails state) leads = ap (λ (o : Result (List Named) State). then_read (settled o w) (λ tables w. told s row (progress tables rows) w)) leads
-  refused A id row before after rows w Memory leads = tt
+  pub refused : (A : Type 0) (id : Option ℕ) (row : Row) (before : Database) (after : List Named) (rows : List Row) (w : W) (why : Unsettled) → s.objects ≡ before.objects
+      → Leads {A = A} (written before.objects s.change.table id row before.tables) (Err why) after → Reads {A = Progress} (writes s id row (progress before.tables rows) w) (Err why) w
+  refused A id row before after rows w (Fails state) same leads =
+      ap (λ (os : List Object). then_read (settled (written os s.change.table id row before.tables) w) (λ tables w. told s row (progress tables rows) w)) same
+      ∙ ap (λ (o : Result (List Named) State). then_read (settled o w) (λ tables w. told s row (progress tables rows) w)) leads
+  refused A id row before after rows w Memory same leads = tt
 
   -- the row of an id that is there, and one that isn't
   pub row_there : (reads : Row → W → Reading W (Option Row)) (id : ℕ) (ts : List Named) (row : Row) (w : W) → row_named s.change.table id ts ≡ Some row → at_row s reads id ts w ≡ reads row w
@@ -71,17 +82,6 @@ module _ {W : Type 0} (s : Setting W) where
   pub row_gone : (reads : Row → W → Reading W (Option Row)) (id : ℕ) (ts : List Named) (w : W) → row_named s.change.table id ts ≡ None → at_row s reads id ts w ≡ fails TRIGGERED_DATA_CHANGE_VIOLATION w
   row_gone reads id ts w is =
       ap (λ (o : Option Row). if_there s reads o w) is
-
--- the rules let a row pass, or they don't
-pub passed : {A : Type 0} (failure : Option RuleFail) (next : Result (List Named) State) (r : Result A Unsettled) (now : List Named) → failure ≡ None → Leads next r now → Leads (unless_broken failure next) r now
-passed {A} failure next r now is leads = subst (λ (f : Option RuleFail). Leads {A = A} (unless_broken f next) r now) (sym is) leads
-
-pub broken : (A B : Type 0) (failure : Option RuleFail) (next : Result (List Named) State) (why : Unsettled) (now : List Named) → Judged {A = A} failure (Err why) → Leads {A = B} (unless_broken failure next) (Err why) now
-broken A B None next (Fails state) now is = absurd cc
-broken A B (Some fail) next (Fails state) now is =
-    let e : state_of fail ≡ state = (let o : Some (state_of fail) ≡ Some state = is in cc) in
-    ap (λ (s : State). let r : Result (List Named) State = Err s in r) e
-broken A B failure next Memory now is = tt
 
 -- what holds anyway holds of an Ok
 pub on_ok : {A E P : Type 0} (r : Result A E) → P → OnOk r P

@@ -1,94 +1,29 @@
 -- What INSERT, UPDATE and DELETE do: PostgreSQL manual, "Data Manipulation", "Returning Data from
--- Modified Rows". Row by row: the row's values, its rules, the write, RETURNING, and then the next
+-- Modified Rows". Row by row: the row's values, the write by its rules, RETURNING, and then the next
 -- row. Queries inside see the tables as they were when the command began.
-use Rattle.std.specs.Prelude.{ℕ, Bool, true, false, ◌&&◌, not, if◌then◌else◌, nat_eq, List, [], ◌∷◌, ◌++◌}
-use Rattle.std.specs.Prelude.{map, slice_set, Option, Some, None, option_and_then, option_map, Result}
-use Rattle.std.specs.Prelude.{Ok, Err}
-use Rattle.std.specs.List.{list_any}
-use Rattle.pl_base.specs.States.{PROGRAM_LIMIT_EXCEEDED, TRIGGERED_DATA_CHANGE_VIOLATION}
-use Rattle.pl_base.specs.States.{UNIQUE_VIOLATION}
-use Rattle.pl_base.specs.declared.state.State.{State}
+use Rattle.std.specs.Prelude.{ℕ, Bool, true, false, List, [], ◌∷◌, ◌++◌, map, slice_set}
+use Rattle.std.specs.Prelude.{Option, Some, None, option_map}
+use Rattle.pl_base.specs.States.{TRIGGERED_DATA_CHANGE_VIOLATION}
 use Rattle.pl_base.specs.declared.value.Value.{Value}
-use Rattle.pl_catalog.specs.declared.object.TableDef.{TableDef}
+use Rattle.pl_catalog.specs.declared.object.Object.{Object}
+use Rattle.pl_journal.specs.Rows.{tables_of}
+use Rattle.pl_journal.specs.Writing.{written}
 use Rattle.pl_product.specs.Product.{passes}
 use Rattle.pl_query.specs.Query.{rows}
 use Rattle.pl_query.specs.Rows.{in_turn}
-use Rattle.pl_query.specs.Sources.{Tables}
 use Rattle.pl_resolved.specs.declared.expression.RExpr.{RExpr}
-use Rattle.pl_rules.specs.Rules.{first_failure}
-use Rattle.pl_rules.specs.declared.rules.RuleFail.{RuleFail}
-use Rattle.pl_rules.specs.declared.rules.RuleFail.TheVariants.{Broken, Evaluating, Memory}
-use Rattle.pl_tables.specs.Named.{Named, content_named, on_table, row_named, rows_named}
-use Rattle.pl_tables.specs.Rows.{Content, inserted, is_full, key_at, removed, replaced}
+use Rattle.pl_tables.specs.Named.{Named, on_table, row_named, rows_named}
+use Rattle.pl_tables.specs.Rows.{removed}
 use Rattle.pl_targets.specs.declared.change.RChange.{RChange}
 use Rattle.pl_targets.specs.declared.change.RRow.{RRow}
 use Rattle.pl_targets.specs.declared.change.RRows.{RRows}
 use Rattle.pl_targets.specs.declared.change.RRows.TheVariants.{Values, Query}
 use Rattle.pl_targets.specs.declared.change.RWhat.{RWhat}
 use Rattle.pl_targets.specs.declared.change.RWhat.TheVariants.{Insert, Update, Delete}
-use Rattle.pl_unique.specs.Key.{key_of}
-use Rattle.pl_unique.specs.Numbered.{same_key}
-use Rattle.pl_unique.specs.declared.key.Part.{Part}
+use Rattle.pl_undo.specs.Database.{Database}
 use Rattle.pl_value.specs.Frames.{Frame, Row}
 use Rattle.pl_value.specs.Meaning.{Calls, Part as Meaning, Sub, value, values}
 use Rattle.pl_value.specs.Reading.{Reading, got, fails, settled, then_read}
-
--- ---- a row is written
-
--- both have a key, and it is the same
-abbrev pub is_same_key : Option (List Part) → Option (List Part) → Bool
-is_same_key (Some parts) (Some others) = same_key parts others
-is_same_key parts others = false
-
--- the row of this id has one of the keys of this row
-abbrev pub has_key_of : Row → Content → ℕ → Bool
-has_key_of row c id =
-    list_any (λ columns. is_same_key (key_of columns row) (key_at columns id c.rows)) c.keys
-
--- so has a row whose id passes the test
-abbrev pub is_taken : (ℕ → Bool) → Row → Content → Bool
-is_taken test row c =
-    list_any (λ (other : ℕ × Row). test other.0 && has_key_of row c other.0) c.rows
-
--- why the row isn't added; why it isn't put in the place of the row of this id
-abbrev pub new_refused : Row → Content → Option State
-new_refused row c =
-    if is_full c then Some PROGRAM_LIMIT_EXCEEDED
-    else (if is_taken (λ other. true) row c then Some UNIQUE_VIOLATION else None)
-
-abbrev pub other_refused : ℕ → Row → Content → Option State
-other_refused id row c =
-    if is_taken (λ other. not (nat_eq other id)) row c then Some UNIQUE_VIOLATION else None
-
--- this, if nothing is refused
-abbrev pub unless : {A : Type 0} → Option State → A → Result A State
-unless (Some state) x = Err state
-unless None x = Ok x
-
--- the tables with the row in the one of this name: under a new id, or in the place of the row of
--- this id
-abbrev pub with_row : List ℕ → Option ℕ → Row → List Named → Result (List Named) State
-with_row name None row ts =
-    unless (option_and_then (new_refused row) (content_named name ts))
-    (on_table name (inserted row) ts)
-with_row name (Some id) row ts =
-    unless (option_and_then (other_refused id row) (content_named name ts))
-    (on_table name (replaced id row) ts)
-
--- the SQLSTATE of a broken rule; none is broken by Memory
-abbrev pub state_of : RuleFail → State
-state_of (Broken state rule) = state
-state_of (Evaluating state) = state
-state_of Memory = PROGRAM_LIMIT_EXCEEDED
-
--- the failure of a rule, or else this
-abbrev pub unless_broken : {A : Type 0} → Option RuleFail → Result A State → Result A State
-unless_broken (Some fail) next = Err (state_of fail)
-unless_broken None next = next
-
--- the rules of the row by itself come first, and then its keys
-abbrev pub written : TableDef → List ℕ → Option ℕ → Row → List Named → Result (List Named) State
-written table name id row ts = unless_broken (first_failure table row) (with_row name id row ts)
 
 -- the row with these values in these columns
 abbrev pub assigned : List ℕ → List Value → Row → Row
@@ -110,17 +45,13 @@ progress tables returned = record { tables = tables; returned = returned }
 abbrev pub ids : List ℕ → List Named → List ℕ
 ids name ts = map (λ (entry : ℕ × Row). entry.0) (rows_named name ts)
 
--- the rows of each table
-abbrev pub tables_of : List Named → Tables
-tables_of ts name = map (λ (entry : ℕ × Row). entry.1) (rows_named name ts)
-
--- what the rows of a command share: calls of routines, what the queries inside give, the change and
--- its table, and the rows that stand around
+-- what the rows of a command share: calls of routines, what the queries inside give, the change,
+-- the objects, whose rules the rows keep, and the rows that stand around
 pub record Setting (W : Type 0) : Type 0 where
   pub calls : Calls W
   pub inner : Sub W
   pub change : RChange
-  pub table : TableDef
+  pub objects : List Object
   pub around : Frame
 
 module _ {W : Type 0} (s : Setting W) where
@@ -139,10 +70,10 @@ module _ {W : Type 0} (s : Setting W) where
   told row p w =
       then_read (returning row w) (λ shown w. got (progress p.tables (p.returned ++ shown ∷ [])) w)
 
-  -- a row is written: its rules, the write, RETURNING
+  -- a row is written by the rules of its table, and RETURNING shows it
   abbrev pub writes : Option ℕ → Row → Progress → W → Reading W Progress
   writes id row p w =
-      then_read (settled (written s.table s.change.table id row p.tables) w) (λ tables w.
+      then_read (settled (written s.objects s.change.table id row p.tables) w) (λ tables w.
       told row (progress tables p.returned) w)
 
   -- a new row of these values
@@ -235,18 +166,17 @@ module _ {W : Type 0} (s : Setting W) where
   does outer (Delete condition) p w = deletes_all condition p w
 
 -- behind the rows around a command stands a row for aggregates, which is empty
-abbrev pub setting : {W : Type 0} → Calls W → RChange → TableDef → Frame → List Named → Setting W
-setting calls change table outer ts = record {
+abbrev pub setting : {W : Type 0} → Calls W → RChange → Frame → Database → Setting W
+setting calls change outer d = record {
   calls = calls;
-  inner = rows calls change.queries (tables_of ts);
+  inner = rows calls change.queries (tables_of d.tables);
   change = change;
-  table = table;
+  objects = d.objects;
   around = outer ++ [] ∷ [];
 }
 
 -- the tables after the command, and a row of RETURNING for each row that was written; or a
 -- SQLSTATE
-abbrev pub changed : {W : Type 0} → Calls W → RChange → TableDef → Frame → List Named → W
-    → Reading W Progress
-changed calls change table outer ts w =
-    does (setting calls change table outer ts) outer change.what (progress ts []) w
+abbrev pub changed : {W : Type 0} → Calls W → RChange → Frame → Database → W → Reading W Progress
+changed calls change outer d w =
+    does (setting calls change outer d) outer change.what (progress d.tables []) w

@@ -2,22 +2,22 @@
 
 ghost use Rattle.std.specs.Prelude.{◌≡◌, [], ◌++◌, map, IfOk, OnOk};
 ghost use Rattle.pl_change.specs.Changes as spec;
-ghost use Rattle.pl_change.specs.Changes.{tables_of};
 ghost use Rattle.pl_change.specs.Running.{seen};
+ghost use Rattle.pl_journal.specs.Rows.{tables_of};
 ghost use Rattle.pl_tables.specs.Slots.{before, live};
 ghost use Rattle.pl_value.specs.Frames.{rows_of};
 
 use pl_base::{Cells, Name, Value, copy_each};
+use pl_journal::Journal;
 use pl_query::Tables;
 use pl_tables::Slot;
-use pl_undo::Store;
 use pl_value::Lent;
 use std::alloc::{AllocError, Global};
 
 /// The tables as they were when a command began, which changes one of them alone.
 #[derive(Clone, Copy)]
 pub struct AtStart<'t> {
-    pub store: &'t Store,
+    pub journal: &'t Journal,
     /// The table that is changed.
     pub name: Name,
     /// Its rows when the command began.
@@ -25,13 +25,13 @@ pub struct AtStart<'t> {
 }
 
 impl<'r> Tables for AtStart<'r> {
-    ghost table = { λ a. seen a.name a.rows.now a.store.now.now.tables };
+    ghost table = { λ a. seen a.name a.rows.now a.journal.now.now.tables };
 
     fn read<'t>(&'t self, alloc: Global, name: Name) -> Result<Vec<Lent<'t>>, AllocError> {
         if self.name == name {
             lend_rows(alloc, &*self.rows)
         } else {
-            lend_table(alloc, &*self.store, name)
+            self.journal.read(alloc, name)
         }
     }
 }
@@ -48,43 +48,15 @@ fn lend_rows<'s>(alloc: Global, rows: &'s [Cells]) -> Result<Vec<Lent<'s>>, Allo
     Ok(lent)
 }
 
-/// Lends the rows of the table of this name.
-fn lend_table<'s>(alloc: Global, store: &'s Store, name: Name) -> Result<Vec<Lent<'s>>, AllocError>
-    ensures { IfOk result (λ lent. rows_of lent.items ≡ tables_of store.now.now.tables name) }
-{
-    match store.tables().table(name) {
-        None => Ok(Vec::new(alloc)),
-        Some(table) => lend_slots(alloc, table.slots()),
-    }
-}
-
-fn lend_slots<'s>(alloc: Global, slots: &'s [Slot]) -> Result<Vec<Lent<'s>>, AllocError>
-    ensures { IfOk result (λ lent. rows_of lent.items ≡ map (λ entry. entry.1) (live slots.now)) }
-{
-    let mut lent = Vec::new(alloc);
-    for slot in slots {
-        lend_slot(&mut lent, slot)?;
-    }
-    Ok(lent)
-}
-
-fn lend_slot<'s>(lent: &mut Vec<Lent<'s>>, slot: &'s Slot) -> Result<(), AllocError>
-    ensures { OnOk result (rows_of lent.new.items
-        ≡ rows_of lent.old.items ++ map (λ entry. entry.1) (before slot.now.id slot.now.row [])) }
-{
-    if let Some(row) = &slot.row {
-        lent.push(Lent {
-            cells: row.as_slice(),
-        })?;
-    }
-    Ok(())
-}
-
 /// A copy of the rows of the table of this name.
-pub(crate) fn copy_table(alloc: Global, store: &Store, name: Name) -> Result<Vec<Cells>, AllocError>
-    ensures { IfOk result (λ copied. copied.items ≡ tables_of store.now.now.tables name) }
+pub(crate) fn copy_table(
+    alloc: Global,
+    journal: &Journal,
+    name: Name,
+) -> Result<Vec<Cells>, AllocError>
+    ensures { IfOk result (λ copied. copied.items ≡ tables_of journal.now.now.tables name) }
 {
-    let rows = lend_table(alloc, store, name)?;
+    let rows = journal.read(alloc, name)?;
     copy_rows(alloc, rows.as_slice())
 }
 
@@ -111,10 +83,10 @@ pub(crate) fn copy_row(alloc: Global, row: &[Value]) -> Result<Cells, AllocError
 }
 
 /// The ids of the rows of the table of this name.
-pub(crate) fn ids_of(alloc: Global, store: &Store, name: Name) -> Result<Vec<u64>, AllocError>
-    ensures { IfOk result (λ made. made.items ≡ spec.ids name store.now.now.tables) }
+pub(crate) fn ids_of(alloc: Global, journal: &Journal, name: Name) -> Result<Vec<u64>, AllocError>
+    ensures { IfOk result (λ made. made.items ≡ spec.ids name journal.now.now.tables) }
 {
-    match store.tables().table(name) {
+    match journal.tables().table(name) {
         None => Ok(Vec::new(alloc)),
         Some(table) => ids_in(alloc, table.slots()),
     }

@@ -1,7 +1,6 @@
 //! What a command needs for each of its rows.
 
 use pl_base::Cells;
-use pl_catalog::TableDef;
 use pl_targets::RChange;
 use pl_value::Lent;
 
@@ -9,8 +8,7 @@ use pl_value::Lent;
 #[derive(Clone, Copy)]
 pub struct Command<'c> {
     pub change: &'c RChange,
-    pub table: &'c TableDef,
-    /// The rows of the table when the command began, if there are queries inside.
+    /// The rows of its table when the command began, if there are queries inside.
     pub start: &'c [Cells],
     /// The rows around the command, and the empty one behind them.
     pub around: &'c [Lent<'c>],

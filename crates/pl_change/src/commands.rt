@@ -1,25 +1,24 @@
 //! Whole commands.
 
-ghost use Rattle.std.specs.Prelude.{◌≡◌, ◌≢◌, [], IfOk, IsSome};
+ghost use Rattle.std.specs.Prelude.{◌≡◌, ◌≢◌, [], IfOk};
 ghost use Rattle.pl_change.specs.Changes as spec;
-ghost use Rattle.pl_change.specs.Changes.{progress, tables_of};
-ghost use Rattle.pl_change.specs.Running.{reached, setting_of, ChangesOnly, Sees};
+ghost use Rattle.pl_change.specs.Changes.{progress};
+ghost use Rattle.pl_change.specs.Running.{reached, setting_of, Sees, Snapshot};
+ghost use Rattle.pl_journal.specs.Journal.{ChangesOnly};
+ghost use Rattle.pl_journal.specs.Rows.{tables_of};
 ghost use Rattle.pl_query.specs.Rows.{in_turn};
-ghost use Rattle.pl_tables.specs.Named.{content_named};
 ghost use Rattle.pl_value.specs.Answers.{Reads};
 ghost use Rattle.pl_value.specs.Frames.{rows_of};
-ghost use Rattle.pl_value.specs.Meaning.{Sub};
 
 use crate::Command;
 use crate::at_start::{copy_table, ids_of};
 use crate::evaluation::{find, stand};
 use crate::rows::{add_row, delete_row, update_row};
 use pl_base::{Boxed, Cells, List};
-use pl_catalog::TableDef;
+use pl_journal::Journal;
 use pl_query::Rows;
 use pl_resolved::RExpr;
 use pl_targets::{RChange, RRow, RRows, RWhat};
-use pl_undo::Store;
 use pl_value::{Caller, Lent, Unsettled};
 use std::alloc::{AllocError, Global};
 
@@ -28,15 +27,14 @@ fn insert_values<'a, C: Caller>(
     alloc: Global,
     command: &Command<'a>,
     list: &'a [RRow],
-    store: &mut Store,
+    journal: &mut Journal,
     caller: &mut C,
 ) -> Result<Rows, Unsettled>
-    requires { IsSome (content_named command.now.change.now.table store.old.now.tables) }
-    ensures reads { (inner : Sub C) → Sees C.calls command.now store.old.now.tables inner
-        → Reads (in_turn (spec.adds_values (setting_of C.calls inner command.now)) list.now
-        (progress store.old.now.tables []) caller.old)
-        (reached result store.new.now.tables) caller.new }
-    ensures only { ChangesOnly command.now.change.now.table store.old store.new }
+    ensures reads { (snapshot : Snapshot C) → Sees C.calls command.now journal.old.now snapshot
+        → Reads (in_turn (spec.adds_values (setting_of C.calls snapshot command.now)) list.now
+        (progress journal.old.now.tables []) caller.old)
+        (reached result journal.new.now.tables) caller.new }
+    ensures only { ChangesOnly command.now.change.now.table journal.old journal.new }
 {
     let mut rows = Rows::new(alloc);
     for row in list {
@@ -45,7 +43,7 @@ fn insert_values<'a, C: Caller>(
             &*command,
             row.values.as_slice(),
             &*command.around,
-            store,
+            journal,
             rows,
             caller,
         ) {
@@ -62,16 +60,15 @@ fn insert_one<'a, C: Caller>(
     command: &Command<'a>,
     values: &'a [RExpr],
     found: &'a Cells,
-    store: &mut Store,
+    journal: &mut Journal,
     rows: Rows,
     caller: &mut C,
 ) -> Result<Rows, Unsettled>
-    requires { IsSome (content_named command.now.change.now.table store.old.now.tables) }
-    ensures reads { (inner : Sub C) → Sees C.calls command.now store.old.now.tables inner
-        → Reads (spec.adds_found (setting_of C.calls inner command.now) values.now found.now
-        (progress store.old.now.tables rows) caller.old)
-        (reached result store.new.now.tables) caller.new }
-    ensures only { ChangesOnly command.now.change.now.table store.old store.new }
+    ensures reads { (snapshot : Snapshot C) → Sees C.calls command.now journal.old.now snapshot
+        → Reads (spec.adds_found (setting_of C.calls snapshot command.now) values.now found.now
+        (progress journal.old.now.tables rows) caller.old)
+        (reached result journal.new.now.tables) caller.new }
+    ensures only { ChangesOnly command.now.change.now.table journal.old journal.new }
 {
     let frame = stand(alloc, &*command.around, found.as_slice())?;
     add_row(
@@ -79,7 +76,7 @@ fn insert_one<'a, C: Caller>(
         &*command,
         values,
         frame.as_slice(),
-        store,
+        journal,
         rows,
         caller,
     )
@@ -91,19 +88,18 @@ fn insert_found<'a, C: Caller>(
     command: &Command<'a>,
     values: &'a [RExpr],
     found: &'a [Cells],
-    store: &mut Store,
+    journal: &mut Journal,
     caller: &mut C,
 ) -> Result<Rows, Unsettled>
-    requires { IsSome (content_named command.now.change.now.table store.old.now.tables) }
-    ensures reads { (inner : Sub C) → Sees C.calls command.now store.old.now.tables inner
-        → Reads (in_turn (spec.adds_found (setting_of C.calls inner command.now) values.now)
-        found.now (progress store.old.now.tables []) caller.old)
-        (reached result store.new.now.tables) caller.new }
-    ensures only { ChangesOnly command.now.change.now.table store.old store.new }
+    ensures reads { (snapshot : Snapshot C) → Sees C.calls command.now journal.old.now snapshot
+        → Reads (in_turn (spec.adds_found (setting_of C.calls snapshot command.now) values.now)
+        found.now (progress journal.old.now.tables []) caller.old)
+        (reached result journal.new.now.tables) caller.new }
+    ensures only { ChangesOnly command.now.change.now.table journal.old journal.new }
 {
     let mut rows = Rows::new(alloc);
     for row in found {
-        match insert_one(alloc, &*command, values, row, store, rows, caller) {
+        match insert_one(alloc, &*command, values, row, journal, rows, caller) {
             Ok(more) => rows = more,
             Err(why) => return Err(why),
         }
@@ -118,18 +114,24 @@ fn insert_query<'a, C: Caller>(
     outer: &[Lent<'a>],
     query: usize,
     values: &'a [RExpr],
-    store: &mut Store,
+    journal: &mut Journal,
     caller: &mut C,
 ) -> Result<Rows, Unsettled>
-    requires { IsSome (content_named command.now.change.now.table store.old.now.tables) }
-    ensures reads { (inner : Sub C) → Sees C.calls command.now store.old.now.tables inner
-        → Reads (spec.inserts_found (setting_of C.calls inner command.now) (rows_of outer.now) query
-        values.now (progress store.old.now.tables []) caller.old)
-        (reached result store.new.now.tables) caller.new }
-    ensures only { ChangesOnly command.now.change.now.table store.old store.new }
+    ensures reads { (snapshot : Snapshot C) → Sees C.calls command.now journal.old.now snapshot
+        → Reads (spec.inserts_found (setting_of C.calls snapshot command.now) (rows_of outer.now)
+        query values.now (progress journal.old.now.tables []) caller.old)
+        (reached result journal.new.now.tables) caller.new }
+    ensures only { ChangesOnly command.now.change.now.table journal.old journal.new }
 {
-    match find(alloc, &*command, &*store, query, outer, caller) {
-        Ok(found) => insert_found(alloc, &*command, &*values, found.as_slice(), store, caller),
+    match find(alloc, &*command, &*journal, query, outer, caller) {
+        Ok(found) => insert_found(
+            alloc,
+            &*command,
+            &*values,
+            found.as_slice(),
+            journal,
+            caller,
+        ),
         Err(why) => Err(why),
     }
 }
@@ -142,19 +144,19 @@ fn update_each<'a, C: Caller>(
     values: &'a [RExpr],
     condition: &'a Option<Boxed<RExpr>>,
     ids: &[u64],
-    store: &mut Store,
+    journal: &mut Journal,
     caller: &mut C,
 ) -> Result<Rows, Unsettled>
-    ensures reads { (inner : Sub C) → Sees C.calls command.now store.old.now.tables inner
-        → Reads (in_turn (spec.updates (setting_of C.calls inner command.now) columns.now
-        values.now condition.now) ids.now (progress store.old.now.tables []) caller.old)
-        (reached result store.new.now.tables) caller.new }
-    ensures only { ChangesOnly command.now.change.now.table store.old store.new }
+    ensures reads { (snapshot : Snapshot C) → Sees C.calls command.now journal.old.now snapshot
+        → Reads (in_turn (spec.updates (setting_of C.calls snapshot command.now) columns.now
+        values.now condition.now) ids.now (progress journal.old.now.tables []) caller.old)
+        (reached result journal.new.now.tables) caller.new }
+    ensures only { ChangesOnly command.now.change.now.table journal.old journal.new }
 {
     let mut rows = Rows::new(alloc);
     for id in ids {
         match update_row(
-            alloc, &*command, columns, values, condition, *id, store, rows, caller,
+            alloc, &*command, columns, values, condition, *id, journal, rows, caller,
         ) {
             Ok(more) => rows = more,
             Err(why) => return Err(why),
@@ -169,18 +171,18 @@ fn delete_each<'a, C: Caller>(
     command: &Command<'a>,
     condition: &'a Option<Boxed<RExpr>>,
     ids: &[u64],
-    store: &mut Store,
+    journal: &mut Journal,
     caller: &mut C,
 ) -> Result<Rows, Unsettled>
-    ensures reads { (inner : Sub C) → Sees C.calls command.now store.old.now.tables inner
-        → Reads (in_turn (spec.deletes (setting_of C.calls inner command.now) condition.now)
-        ids.now (progress store.old.now.tables []) caller.old)
-        (reached result store.new.now.tables) caller.new }
-    ensures only { ChangesOnly command.now.change.now.table store.old store.new }
+    ensures reads { (snapshot : Snapshot C) → Sees C.calls command.now journal.old.now snapshot
+        → Reads (in_turn (spec.deletes (setting_of C.calls snapshot command.now) condition.now)
+        ids.now (progress journal.old.now.tables []) caller.old)
+        (reached result journal.new.now.tables) caller.new }
+    ensures only { ChangesOnly command.now.change.now.table journal.old journal.new }
 {
     let mut rows = Rows::new(alloc);
     for id in ids {
-        match delete_row(alloc, &*command, condition, *id, store, rows, caller) {
+        match delete_row(alloc, &*command, condition, *id, journal, rows, caller) {
             Ok(more) => rows = more,
             Err(why) => return Err(why),
         }
@@ -194,25 +196,24 @@ fn insert<'a, C: Caller>(
     command: &Command<'a>,
     outer: &[Lent<'a>],
     source: &'a RRows,
-    store: &mut Store,
+    journal: &mut Journal,
     caller: &mut C,
 ) -> Result<Rows, Unsettled>
-    requires { IsSome (content_named command.now.change.now.table store.old.now.tables) }
-    ensures reads { (inner : Sub C) → Sees C.calls command.now store.old.now.tables inner
-        → Reads (spec.inserts (setting_of C.calls inner command.now) (rows_of outer.now)
-        source.now (progress store.old.now.tables []) caller.old)
-        (reached result store.new.now.tables) caller.new }
-    ensures only { ChangesOnly command.now.change.now.table store.old store.new }
+    ensures reads { (snapshot : Snapshot C) → Sees C.calls command.now journal.old.now snapshot
+        → Reads (spec.inserts (setting_of C.calls snapshot command.now) (rows_of outer.now)
+        source.now (progress journal.old.now.tables []) caller.old)
+        (reached result journal.new.now.tables) caller.new }
+    ensures only { ChangesOnly command.now.change.now.table journal.old journal.new }
 {
     match source {
-        RRows::Values(list) => insert_values(alloc, &*command, list.as_slice(), store, caller),
+        RRows::Values(list) => insert_values(alloc, &*command, list.as_slice(), journal, caller),
         RRows::Query { query, values } => insert_query(
             alloc,
             &*command,
             outer,
             *query,
             values.as_slice(),
-            store,
+            journal,
             caller,
         ),
     }
@@ -225,16 +226,16 @@ fn update<'a, C: Caller>(
     columns: &List<usize>,
     values: &'a List<RExpr>,
     condition: &'a Option<Boxed<RExpr>>,
-    store: &mut Store,
+    journal: &mut Journal,
     caller: &mut C,
 ) -> Result<Rows, Unsettled>
-    ensures reads { (inner : Sub C) → Sees C.calls command.now store.old.now.tables inner
-        → Reads (spec.updates_all (setting_of C.calls inner command.now) columns.now values.now
-        condition.now (progress store.old.now.tables []) caller.old)
-        (reached result store.new.now.tables) caller.new }
-    ensures only { ChangesOnly command.now.change.now.table store.old store.new }
+    ensures reads { (snapshot : Snapshot C) → Sees C.calls command.now journal.old.now snapshot
+        → Reads (spec.updates_all (setting_of C.calls snapshot command.now) columns.now values.now
+        condition.now (progress journal.old.now.tables []) caller.old)
+        (reached result journal.new.now.tables) caller.new }
+    ensures only { ChangesOnly command.now.change.now.table journal.old journal.new }
 {
-    let ids = ids_of(alloc, &*store, command.change.table)?;
+    let ids = ids_of(alloc, &*journal, command.change.table)?;
     update_each(
         alloc,
         &*command,
@@ -242,7 +243,7 @@ fn update<'a, C: Caller>(
         values.as_slice(),
         condition,
         ids.as_slice(),
-        store,
+        journal,
         caller,
     )
 }
@@ -252,17 +253,17 @@ fn delete<'a, C: Caller>(
     alloc: Global,
     command: &Command<'a>,
     condition: &'a Option<Boxed<RExpr>>,
-    store: &mut Store,
+    journal: &mut Journal,
     caller: &mut C,
 ) -> Result<Rows, Unsettled>
-    ensures reads { (inner : Sub C) → Sees C.calls command.now store.old.now.tables inner
-        → Reads (spec.deletes_all (setting_of C.calls inner command.now) condition.now
-        (progress store.old.now.tables []) caller.old)
-        (reached result store.new.now.tables) caller.new }
-    ensures only { ChangesOnly command.now.change.now.table store.old store.new }
+    ensures reads { (snapshot : Snapshot C) → Sees C.calls command.now journal.old.now snapshot
+        → Reads (spec.deletes_all (setting_of C.calls snapshot command.now) condition.now
+        (progress journal.old.now.tables []) caller.old)
+        (reached result journal.new.now.tables) caller.new }
+    ensures only { ChangesOnly command.now.change.now.table journal.old journal.new }
 {
-    let ids = ids_of(alloc, &*store, command.change.table)?;
-    delete_each(alloc, &*command, condition, ids.as_slice(), store, caller)
+    let ids = ids_of(alloc, &*journal, command.change.table)?;
+    delete_each(alloc, &*command, condition, ids.as_slice(), journal, caller)
 }
 
 // The command, once the rows that stand around are there.
@@ -270,24 +271,25 @@ fn run<'a, C: Caller>(
     alloc: Global,
     command: &Command<'a>,
     outer: &[Lent<'a>],
-    store: &mut Store,
+    journal: &mut Journal,
     caller: &mut C,
 ) -> Result<Rows, Unsettled>
-    requires { IsSome (content_named command.now.change.now.table store.old.now.tables) }
-    ensures reads { (inner : Sub C) → Sees C.calls command.now store.old.now.tables inner
-        → Reads (spec.does (setting_of C.calls inner command.now) (rows_of outer.now)
-        command.now.change.now.what (progress store.old.now.tables []) caller.old)
-        (reached result store.new.now.tables) caller.new }
-    ensures only { ChangesOnly command.now.change.now.table store.old store.new }
+    ensures reads { (snapshot : Snapshot C) → Sees C.calls command.now journal.old.now snapshot
+        → Reads (spec.does (setting_of C.calls snapshot command.now) (rows_of outer.now)
+        command.now.change.now.what (progress journal.old.now.tables []) caller.old)
+        (reached result journal.new.now.tables) caller.new }
+    ensures only { ChangesOnly command.now.change.now.table journal.old journal.new }
 {
     match &command.change.what {
-        RWhat::Insert(source) => insert(alloc, &*command, outer, source, store, caller),
+        RWhat::Insert(source) => insert(alloc, &*command, outer, source, journal, caller),
         RWhat::Update {
             columns,
             values,
             condition,
-        } => update(alloc, &*command, columns, values, condition, store, caller),
-        RWhat::Delete { condition } => delete(alloc, &*command, condition, store, caller),
+        } => update(
+            alloc, &*command, columns, values, condition, journal, caller,
+        ),
+        RWhat::Delete { condition } => delete(alloc, &*command, condition, journal, caller),
     }
 }
 
@@ -296,60 +298,56 @@ fn answer<'a, C: Caller>(
     alloc: Global,
     command: &Command<'a>,
     outer: &[Lent<'a>],
-    store: &mut Store,
+    journal: &mut Journal,
     caller: &mut C,
 ) -> Result<List<Cells>, Unsettled>
-    requires { IsSome (content_named command.now.change.now.table store.old.now.tables) }
-    ensures reads { (inner : Sub C) → Sees C.calls command.now store.old.now.tables inner
-        → Reads (spec.does (setting_of C.calls inner command.now) (rows_of outer.now)
-        command.now.change.now.what (progress store.old.now.tables []) caller.old)
-        (reached result store.new.now.tables) caller.new }
-    ensures only { ChangesOnly command.now.change.now.table store.old store.new }
+    ensures reads { (snapshot : Snapshot C) → Sees C.calls command.now journal.old.now snapshot
+        → Reads (spec.does (setting_of C.calls snapshot command.now) (rows_of outer.now)
+        command.now.change.now.what (progress journal.old.now.tables []) caller.old)
+        (reached result journal.new.now.tables) caller.new }
+    ensures only { ChangesOnly command.now.change.now.table journal.old journal.new }
 {
-    match run(alloc, &*command, outer, store, caller) {
+    match run(alloc, &*command, outer, journal, caller) {
         Ok(rows) => Ok(List::from_vec(rows.into_vec())),
         Err(why) => Err(why),
     }
 }
 
 // The rows of the table, if there are queries inside that may read them.
-fn start_of(alloc: Global, change: &RChange, store: &Store) -> Result<Vec<Cells>, AllocError>
+fn start_of(alloc: Global, change: &RChange, journal: &Journal) -> Result<Vec<Cells>, AllocError>
     ensures { IfOk result (λ start. change.now.queries ≢ []
-        → start.items ≡ tables_of store.now.now.tables change.now.table) }
+        → start.items ≡ tables_of journal.now.now.tables change.now.table) }
 {
     if change.queries.is_empty() {
         Ok(Vec::new(alloc))
     } else {
-        copy_table(alloc, store, change.table)
+        copy_table(alloc, journal, change.table)
     }
 }
 
 /// Runs a command over the rows around it, and answers what RETURNING shows of each row that was
 /// written, an empty row where there is no RETURNING: so the command's count is their number.
-/// Its failures are those of its expressions and queries, and of each row the rule that it breaks
-/// first, 54000 where the table is full, 23505 where another row has a key of it. After a failure
-/// the table may hold some of the changes: go back to a mark. All else stays in any case.
+/// Its failures are those of its expressions and queries, and of each row those of the journal's
+/// `insert` and `replace`. After a failure the table may hold some of the changes: go back to the
+/// last commit. All else stays in any case.
 pub fn change<C: Caller>(
     alloc: Global,
     change: &RChange,
-    table: &TableDef,
-    store: &mut Store,
     outer: &[Lent<'_>],
+    journal: &mut Journal,
     caller: &mut C,
 ) -> Result<List<Cells>, Unsettled>
-    requires there { IsSome (content_named change.now.table store.old.now.tables) }
-    ensures reads { Reads (spec.changed C.calls change.now table.now (rows_of outer.now)
-        store.old.now.tables caller.old)
-        (reached result store.new.now.tables) caller.new }
-    ensures only { ChangesOnly change.now.table store.old store.new }
+    ensures reads { Reads (spec.changed C.calls change.now (rows_of outer.now) journal.old.now
+        caller.old)
+        (reached result journal.new.now.tables) caller.new }
+    ensures only { ChangesOnly change.now.table journal.old journal.new }
 {
-    let start = start_of(alloc, change, &*store)?;
+    let start = start_of(alloc, change, &*journal)?;
     let around = stand(alloc, &*outer, &[])?;
     let command = Command {
         change: &*change,
-        table: &*table,
         start: start.as_slice(),
         around: around.as_slice(),
     };
-    answer(alloc, &command, &*outer, store, caller)
+    answer(alloc, &command, &*outer, journal, caller)
 }

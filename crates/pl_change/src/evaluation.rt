@@ -2,20 +2,19 @@
 
 ghost use Rattle.std.specs.Prelude.{◌≡◌, [], ◌∷◌, ◌++◌, map, option_map, true, IfOk};
 ghost use Rattle.pl_change.specs.Changes as spec;
-ghost use Rattle.pl_change.specs.Running.{setting_of, Sees};
+ghost use Rattle.pl_change.specs.Running.{setting_of, Sees, Snapshot};
 ghost use Rattle.pl_product.specs.Product as product;
 ghost use Rattle.pl_query.specs.Query as query;
 ghost use Rattle.pl_value.specs.Answers.{Reads};
 ghost use Rattle.pl_value.specs.Frames.{rows_of};
 ghost use Rattle.pl_value.specs.Meaning as meaning;
-ghost use Rattle.pl_value.specs.Meaning.{Sub};
 ghost use Rattle.pl_value.specs.Reading.{settled};
 
 use crate::{AtStart, Command};
 use pl_base::{Boxed, Cells, List, State, Value};
+use pl_journal::Journal;
 use pl_query::{Tables, evaluate, run};
 use pl_resolved::{RExpr, RQuery};
-use pl_undo::Store;
 use pl_value::{Caller, Lent, Unsettled};
 use std::alloc::{AllocError, Global};
 
@@ -78,18 +77,18 @@ fn passes_in<'a, C: Caller, T: Tables>(
 pub(crate) fn read_all<'a, C: Caller>(
     alloc: Global,
     command: &Command<'a>,
-    store: &'a Store,
+    journal: &'a Journal,
     parts: &'a [RExpr],
     frame: &[Lent<'a>],
     caller: &mut C,
 ) -> Result<Cells, Unsettled>
-    ensures { (inner : Sub C) → Sees C.calls command.now store.now.now.tables inner
-        → Reads (meaning.values (map (meaning.value C.calls inner) parts.now) []
+    ensures { (snapshot : Snapshot C) → Sees C.calls command.now journal.now.now snapshot
+        → Reads (meaning.values (map (meaning.value C.calls snapshot.inner) parts.now) []
         (rows_of frame.now) caller.old)
         result caller.new }
 {
     let tables = AtStart {
-        store,
+        journal,
         name: command.change.table,
         rows: &*command.start,
     };
@@ -107,13 +106,13 @@ pub(crate) fn read_all<'a, C: Caller>(
 pub(crate) fn passes_where<'a, C: Caller>(
     alloc: Global,
     command: &Command<'a>,
-    store: &'a Store,
+    journal: &'a Journal,
     condition: &'a Option<Boxed<RExpr>>,
     frame: &[Lent<'a>],
     caller: &mut C,
 ) -> Result<bool, Unsettled>
-    ensures { (inner : Sub C) → Sees C.calls command.now store.now.now.tables inner
-        → Reads (product.passes (option_map (meaning.value C.calls inner) condition.now)
+    ensures { (snapshot : Snapshot C) → Sees C.calls command.now journal.now.now snapshot
+        → Reads (product.passes (option_map (meaning.value C.calls snapshot.inner) condition.now)
         (rows_of frame.now) caller.old)
         result caller.new }
 {
@@ -121,7 +120,7 @@ pub(crate) fn passes_where<'a, C: Caller>(
         None => Ok(true),
         Some(condition) => {
             let tables = AtStart {
-                store,
+                journal,
                 name: command.change.table,
                 rows: &*command.start,
             };
@@ -141,16 +140,16 @@ pub(crate) fn passes_where<'a, C: Caller>(
 pub(crate) fn find<C: Caller>(
     alloc: Global,
     command: &Command<'_>,
-    store: &Store,
+    journal: &Journal,
     at: usize,
     outer: &[Lent<'_>],
     caller: &mut C,
 ) -> Result<List<Cells>, Unsettled>
-    ensures { (inner : Sub C) → Sees C.calls command.now store.now.now.tables inner
-        → Reads (inner at (rows_of outer.now) caller.old) result caller.new }
+    ensures { (snapshot : Snapshot C) → Sees C.calls command.now journal.now.now snapshot
+        → Reads (snapshot.inner at (rows_of outer.now) caller.old) result caller.new }
 {
     let tables = AtStart {
-        store: &*store,
+        journal: &*journal,
         name: command.change.table,
         rows: &*command.start,
     };
@@ -182,18 +181,18 @@ pub(crate) fn show<C: Caller>(
     alloc: Global,
     command: &Command<'_>,
     row: &[Value],
-    store: &Store,
+    journal: &Journal,
     caller: &mut C,
 ) -> Result<Cells, Unsettled>
-    ensures { (inner : Sub C) → Sees C.calls command.now store.now.now.tables inner
-        → Reads (spec.returning (setting_of C.calls inner command.now) row.now caller.old)
+    ensures { (snapshot : Snapshot C) → Sees C.calls command.now journal.now.now snapshot
+        → Reads (spec.returning (setting_of C.calls snapshot command.now) row.now caller.old)
         result caller.new }
 {
     let frame = stand(alloc, &*command.around, row)?;
     read_all(
         alloc,
         &*command,
-        &*store,
+        &*journal,
         command.change.returning.as_slice(),
         frame.as_slice(),
         caller,
@@ -206,15 +205,15 @@ fn some_values<'a, C: Caller>(
     command: &Command<'a>,
     parts: &'a [RExpr],
     frame: &[Lent<'a>],
-    store: &'a Store,
+    journal: &'a Journal,
     caller: &mut C,
 ) -> Result<Option<Cells>, Unsettled>
-    ensures { (inner : Sub C) → Sees C.calls command.now store.now.now.tables inner
-        → Reads (spec.values_if (setting_of C.calls inner command.now) true parts.now
+    ensures { (snapshot : Snapshot C) → Sees C.calls command.now journal.now.now snapshot
+        → Reads (spec.values_if (setting_of C.calls snapshot command.now) true parts.now
         (rows_of frame.now) caller.old)
         result caller.new }
 {
-    match read_all(alloc, &*command, store, parts, frame, caller) {
+    match read_all(alloc, &*command, journal, parts, frame, caller) {
         Ok(values) => Ok(Some(values)),
         Err(why) => Err(why),
     }
@@ -227,16 +226,16 @@ fn values_if<'a, C: Caller>(
     passes: bool,
     parts: &'a [RExpr],
     frame: &[Lent<'a>],
-    store: &'a Store,
+    journal: &'a Journal,
     caller: &mut C,
 ) -> Result<Option<Cells>, Unsettled>
-    ensures { (inner : Sub C) → Sees C.calls command.now store.now.now.tables inner
-        → Reads (spec.values_if (setting_of C.calls inner command.now) passes parts.now
+    ensures { (snapshot : Snapshot C) → Sees C.calls command.now journal.now.now snapshot
+        → Reads (spec.values_if (setting_of C.calls snapshot command.now) passes parts.now
         (rows_of frame.now) caller.old)
         result caller.new }
 {
     if passes {
-        some_values(alloc, &*command, parts, frame, store, caller)
+        some_values(alloc, &*command, parts, frame, journal, caller)
     } else {
         Ok(None)
     }
@@ -249,16 +248,16 @@ pub(crate) fn read_if<'a, C: Caller>(
     condition: &'a Option<Boxed<RExpr>>,
     parts: &'a [RExpr],
     frame: &[Lent<'a>],
-    store: &'a Store,
+    journal: &'a Journal,
     caller: &mut C,
 ) -> Result<Option<Cells>, Unsettled>
-    ensures { (inner : Sub C) → Sees C.calls command.now store.now.now.tables inner
-        → Reads (spec.read_if (setting_of C.calls inner command.now) condition.now parts.now
+    ensures { (snapshot : Snapshot C) → Sees C.calls command.now journal.now.now snapshot
+        → Reads (spec.read_if (setting_of C.calls snapshot command.now) condition.now parts.now
         (rows_of frame.now) caller.old)
         result caller.new }
 {
-    match passes_where(alloc, &*command, store, condition, frame, caller) {
-        Ok(passes) => values_if(alloc, &*command, passes, parts, frame, store, caller),
+    match passes_where(alloc, &*command, journal, condition, frame, caller) {
+        Ok(passes) => values_if(alloc, &*command, passes, parts, frame, journal, caller),
         Err(why) => Err(why),
     }
 }

@@ -1,4 +1,4 @@
-//! What INSERT, UPDATE and DELETE do to a store of rows.
+//! What INSERT, UPDATE and DELETE do to a database.
 #![tactic(auto)]
 
 mod at_start;

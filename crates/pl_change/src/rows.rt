@@ -4,11 +4,12 @@ ghost use Rattle.std.specs.Prelude.{◌≡◌, IfOk, IsSome, OnOk, Some, option_
 ghost use Rattle.std.specs.Option.{option_copied};
 ghost use Rattle.pl_change.specs.Changes as spec;
 ghost use Rattle.pl_change.specs.Changes.{assigned, progress};
-ghost use Rattle.pl_change.specs.Running.{reached, setting_of, ChangesOnly, Sees};
-ghost use Rattle.pl_tables.specs.Named.{content_named, row_named};
+ghost use Rattle.pl_change.specs.Running.{reached, setting_of, Sees, Snapshot};
+ghost use Rattle.pl_journal.specs.Journal.{ChangesOnly};
+ghost use Rattle.pl_tables.specs.Named.{row_named};
 ghost use Rattle.pl_value.specs.Answers.{Reads};
 ghost use Rattle.pl_value.specs.Frames.{rows_of};
-ghost use Rattle.pl_value.specs.Meaning.{Calls, Sub};
+ghost use Rattle.pl_value.specs.Meaning.{Calls};
 ghost use Rattle.pl_value.specs.Reading.{got, then_read};
 
 use crate::Command;
@@ -16,9 +17,9 @@ use crate::at_start::copy_row;
 use crate::evaluation::{read_all, read_if, stand};
 use crate::writing::write_row;
 use pl_base::{Boxed, Cells, Name, State, Value};
+use pl_journal::Journal;
 use pl_query::Rows;
 use pl_resolved::RExpr;
-use pl_undo::Store;
 use pl_value::{Caller, Lent, Unsettled};
 use std::alloc::{AllocError, Global};
 
@@ -28,35 +29,34 @@ pub(crate) fn add_row<'a, C: Caller>(
     command: &Command<'a>,
     parts: &'a [RExpr],
     frame: &[Lent<'a>],
-    store: &mut Store,
+    journal: &mut Journal,
     rows: Rows,
     caller: &mut C,
 ) -> Result<Rows, Unsettled>
-    requires { IsSome (content_named command.now.change.now.table store.old.now.tables) }
-    ensures reads { (inner : Sub C) → Sees C.calls command.now store.old.now.tables inner
-        → Reads (spec.adds (setting_of C.calls inner command.now) parts.now (rows_of frame.now)
-        (progress store.old.now.tables rows) caller.old)
-        (reached result store.new.now.tables) caller.new }
-    ensures only { ChangesOnly command.now.change.now.table store.old store.new }
+    ensures reads { (snapshot : Snapshot C) → Sees C.calls command.now journal.old.now snapshot
+        → Reads (spec.adds (setting_of C.calls snapshot command.now) parts.now (rows_of frame.now)
+        (progress journal.old.now.tables rows) caller.old)
+        (reached result journal.new.now.tables) caller.new }
+    ensures only { ChangesOnly command.now.change.now.table journal.old journal.new }
 {
-    match read_all(alloc, &*command, &*store, &*parts, &*frame, caller) {
-        Ok(row) => write_row(alloc, &*command, None, row, store, rows, caller),
+    match read_all(alloc, &*command, &*journal, &*parts, &*frame, caller) {
+        Ok(row) => write_row(alloc, &*command, None, row, journal, rows, caller),
         Err(why) => Err(why),
     }
 }
 
 // The row of this id in the table of this name.
-fn row_of(store: &Store, name: Name, id: u64) -> Option<&Cells>
-    ensures { option_copied result ≡ row_named name id store.now.now.tables }
+fn row_of(journal: &Journal, name: Name, id: u64) -> Option<&Cells>
+    ensures { option_copied result ≡ row_named name id journal.now.now.tables }
 {
-    match store.tables().table(name) {
+    match journal.tables().table(name) {
         Some(table) => table.row(id),
         None => None,
     }
 }
 
 // The row with these values in these columns.
-#[tactic(auto, using(crate::proofs::Slots::no_values))]
+#[tactic(auto, using(crate::proofs::Assigned::no_values))]
 fn assign(
     alloc: Global,
     mut columns: &[usize],
@@ -125,16 +125,16 @@ fn set_over<'a, C: Caller>(
     condition: &'a Option<Boxed<RExpr>>,
     row: &[Value],
     frame: &[Lent<'a>],
-    store: &'a Store,
+    journal: &'a Journal,
     caller: &mut C,
 ) -> Result<Option<Cells>, Unsettled>
-    ensures { (inner : Sub C) → Sees C.calls command.now store.now.now.tables inner
-        → Reads (then_read (spec.read_if (setting_of C.calls inner command.now) condition.now
+    ensures { (snapshot : Snapshot C) → Sees C.calls command.now journal.now.now snapshot
+        → Reads (then_read (spec.read_if (setting_of C.calls snapshot command.now) condition.now
         values.now (rows_of frame.now) caller.old)
         (λ vs w. got (option_map (λ vs. assigned columns.now vs row.now) vs) w))
         result caller.new }
 {
-    match read_if(alloc, &*command, condition, values, frame, store, caller) {
+    match read_if(alloc, &*command, condition, values, frame, journal, caller) {
         Ok(values) => assign_if::<C>(alloc, columns, values, row),
         Err(why) => Err(why),
     }
@@ -148,11 +148,11 @@ fn set_if<'a, C: Caller>(
     values: &'a [RExpr],
     condition: &'a Option<Boxed<RExpr>>,
     row: &'a [Value],
-    store: &'a Store,
+    journal: &'a Journal,
     caller: &mut C,
 ) -> Result<Option<Cells>, Unsettled>
-    ensures { (inner : Sub C) → Sees C.calls command.now store.now.now.tables inner
-        → Reads (spec.set_if (setting_of C.calls inner command.now) columns.now values.now
+    ensures { (snapshot : Snapshot C) → Sees C.calls command.now journal.now.now snapshot
+        → Reads (spec.set_if (setting_of C.calls snapshot command.now) columns.now values.now
         condition.now row.now caller.old)
         result caller.new }
 {
@@ -165,7 +165,7 @@ fn set_if<'a, C: Caller>(
         condition,
         row,
         frame.as_slice(),
-        store,
+        journal,
         caller,
     )
 }
@@ -178,18 +178,18 @@ fn set_row<'a, C: Caller>(
     values: &'a [RExpr],
     condition: &'a Option<Boxed<RExpr>>,
     id: u64,
-    store: &'a Store,
+    journal: &'a Journal,
     caller: &mut C,
 ) -> Result<Option<Cells>, Unsettled>
-    ensures reads { (inner : Sub C) → Sees C.calls command.now store.now.now.tables inner
-        → Reads (spec.at_row (setting_of C.calls inner command.now)
-        (spec.set_if (setting_of C.calls inner command.now) columns.now values.now condition.now)
-        id store.now.now.tables caller.old)
+    ensures reads { (snapshot : Snapshot C) → Sees C.calls command.now journal.now.now snapshot
+        → Reads (spec.at_row (setting_of C.calls snapshot command.now)
+        (spec.set_if (setting_of C.calls snapshot command.now) columns.now values.now condition.now)
+        id journal.now.now.tables caller.old)
         result caller.new }
     ensures there { OnOk result (IsSome (row_named command.now.change.now.table id
-        store.now.now.tables)) }
+        journal.now.now.tables)) }
 {
-    match row_of(store, command.change.table, id) {
+    match row_of(journal, command.change.table, id) {
         Some(row) => set_if(
             alloc,
             &*command,
@@ -197,7 +197,7 @@ fn set_row<'a, C: Caller>(
             values,
             condition,
             row.as_slice(),
-            store,
+            journal,
             caller,
         ),
         None => Err(Unsettled::Fails(State::TRIGGERED_DATA_CHANGE_VIOLATION)),
@@ -210,21 +210,21 @@ fn write_if<C: Caller>(
     command: &Command<'_>,
     id: u64,
     row: Option<Cells>,
-    store: &mut Store,
+    journal: &mut Journal,
     rows: Rows,
     caller: &mut C,
 ) -> Result<Rows, Unsettled>
-    requires { IsSome (row_named command.now.change.now.table id store.old.now.tables) }
-    ensures reads { (inner : Sub C) → Sees C.calls command.now store.old.now.tables inner
-        → Reads (spec.if_some (setting_of C.calls inner command.now)
-        (spec.writes (setting_of C.calls inner command.now) (Some id)) row
-        (progress store.old.now.tables rows) caller.old)
-        (reached result store.new.now.tables) caller.new }
-    ensures only { ChangesOnly command.now.change.now.table store.old store.new }
+    requires { IsSome (row_named command.now.change.now.table id journal.old.now.tables) }
+    ensures reads { (snapshot : Snapshot C) → Sees C.calls command.now journal.old.now snapshot
+        → Reads (spec.if_some (setting_of C.calls snapshot command.now)
+        (spec.writes (setting_of C.calls snapshot command.now) (Some id)) row
+        (progress journal.old.now.tables rows) caller.old)
+        (reached result journal.new.now.tables) caller.new }
+    ensures only { ChangesOnly command.now.change.now.table journal.old journal.new }
 {
     match row {
         None => Ok(rows),
-        Some(row) => write_row(alloc, &*command, Some(id), row, store, rows, caller),
+        Some(row) => write_row(alloc, &*command, Some(id), row, journal, rows, caller),
     }
 }
 
@@ -236,15 +236,15 @@ pub(crate) fn update_row<'a, C: Caller>(
     values: &'a [RExpr],
     condition: &'a Option<Boxed<RExpr>>,
     id: u64,
-    store: &mut Store,
+    journal: &mut Journal,
     rows: Rows,
     caller: &mut C,
 ) -> Result<Rows, Unsettled>
-    ensures reads { (inner : Sub C) → Sees C.calls command.now store.old.now.tables inner
-        → Reads (spec.updates (setting_of C.calls inner command.now) columns.now values.now
-        condition.now id (progress store.old.now.tables rows) caller.old)
-        (reached result store.new.now.tables) caller.new }
-    ensures only { ChangesOnly command.now.change.now.table store.old store.new }
+    ensures reads { (snapshot : Snapshot C) → Sees C.calls command.now journal.old.now snapshot
+        → Reads (spec.updates (setting_of C.calls snapshot command.now) columns.now values.now
+        condition.now id (progress journal.old.now.tables rows) caller.old)
+        (reached result journal.new.now.tables) caller.new }
+    ensures only { ChangesOnly command.now.change.now.table journal.old journal.new }
 {
     match set_row(
         alloc,
@@ -253,10 +253,10 @@ pub(crate) fn update_row<'a, C: Caller>(
         &*values,
         &*condition,
         id,
-        &*store,
+        &*journal,
         caller,
     ) {
-        Ok(row) => write_if(alloc, &*command, id, row, store, rows, caller),
+        Ok(row) => write_if(alloc, &*command, id, row, journal, rows, caller),
         Err(why) => Err(why),
     }
 }
@@ -267,11 +267,11 @@ fn show_if<'a, C: Caller>(
     command: &Command<'a>,
     condition: &'a Option<Boxed<RExpr>>,
     row: &'a [Value],
-    store: &'a Store,
+    journal: &'a Journal,
     caller: &mut C,
 ) -> Result<Option<Cells>, Unsettled>
-    ensures { (inner : Sub C) → Sees C.calls command.now store.now.now.tables inner
-        → Reads (spec.shown_if (setting_of C.calls inner command.now) condition.now row.now
+    ensures { (snapshot : Snapshot C) → Sees C.calls command.now journal.now.now snapshot
+        → Reads (spec.shown_if (setting_of C.calls snapshot command.now) condition.now row.now
         caller.old)
         result caller.new }
 {
@@ -282,7 +282,7 @@ fn show_if<'a, C: Caller>(
         condition,
         command.change.returning.as_slice(),
         frame.as_slice(),
-        store,
+        journal,
         caller,
     )
 }
@@ -293,19 +293,19 @@ fn show_row<'a, C: Caller>(
     command: &Command<'a>,
     condition: &'a Option<Boxed<RExpr>>,
     id: u64,
-    store: &'a Store,
+    journal: &'a Journal,
     caller: &mut C,
 ) -> Result<Option<Cells>, Unsettled>
-    ensures reads { (inner : Sub C) → Sees C.calls command.now store.now.now.tables inner
-        → Reads (spec.at_row (setting_of C.calls inner command.now)
-        (spec.shown_if (setting_of C.calls inner command.now) condition.now)
-        id store.now.now.tables caller.old)
+    ensures reads { (snapshot : Snapshot C) → Sees C.calls command.now journal.now.now snapshot
+        → Reads (spec.at_row (setting_of C.calls snapshot command.now)
+        (spec.shown_if (setting_of C.calls snapshot command.now) condition.now)
+        id journal.now.now.tables caller.old)
         result caller.new }
     ensures there { OnOk result (IsSome (row_named command.now.change.now.table id
-        store.now.now.tables)) }
+        journal.now.now.tables)) }
 {
-    match row_of(store, command.change.table, id) {
-        Some(row) => show_if(alloc, &*command, condition, row.as_slice(), store, caller),
+    match row_of(journal, command.change.table, id) {
+        Some(row) => show_if(alloc, &*command, condition, row.as_slice(), journal, caller),
         None => Err(Unsettled::Fails(State::TRIGGERED_DATA_CHANGE_VIOLATION)),
     }
 }
@@ -315,19 +315,19 @@ fn take_row<C>(
     command: &Command<'_>,
     id: u64,
     shown: Cells,
-    store: &mut Store,
+    journal: &mut Journal,
     rows: Rows,
 ) -> Result<Rows, Unsettled>
-    requires { IsSome (row_named command.now.change.now.table id store.old.now.tables) }
-    ensures reads { (calls : Calls C) (inner : Sub C) (w : C)
-        → Reads (spec.takes (setting_of calls inner command.now) id shown
-        (progress store.old.now.tables rows) w)
-        (reached result store.new.now.tables) w }
-    ensures only { ChangesOnly command.now.change.now.table store.old store.new }
+    requires { IsSome (row_named command.now.change.now.table id journal.old.now.tables) }
+    ensures reads { (calls : Calls C) (snapshot : Snapshot C) (w : C)
+        → Reads (spec.takes (setting_of calls snapshot command.now) id shown
+        (progress journal.old.now.tables rows) w)
+        (reached result journal.new.now.tables) w }
+    ensures only { ChangesOnly command.now.change.now.table journal.old journal.new }
 {
     let mut rows = rows;
     rows.push(shown)?;
-    store.remove(command.change.table, id)?;
+    journal.remove(command.change.table, id)?;
     Ok(rows)
 }
 
@@ -336,20 +336,20 @@ fn take_if<C>(
     command: &Command<'_>,
     id: u64,
     shown: Option<Cells>,
-    store: &mut Store,
+    journal: &mut Journal,
     rows: Rows,
 ) -> Result<Rows, Unsettled>
-    requires { IsSome (row_named command.now.change.now.table id store.old.now.tables) }
-    ensures reads { (calls : Calls C) (inner : Sub C) (w : C)
-        → Reads (spec.if_some (setting_of calls inner command.now)
-        (spec.takes (setting_of calls inner command.now) id) shown
-        (progress store.old.now.tables rows) w)
-        (reached result store.new.now.tables) w }
-    ensures only { ChangesOnly command.now.change.now.table store.old store.new }
+    requires { IsSome (row_named command.now.change.now.table id journal.old.now.tables) }
+    ensures reads { (calls : Calls C) (snapshot : Snapshot C) (w : C)
+        → Reads (spec.if_some (setting_of calls snapshot command.now)
+        (spec.takes (setting_of calls snapshot command.now) id) shown
+        (progress journal.old.now.tables rows) w)
+        (reached result journal.new.now.tables) w }
+    ensures only { ChangesOnly command.now.change.now.table journal.old journal.new }
 {
     match shown {
         None => Ok(rows),
-        Some(shown) => take_row::<C>(command, id, shown, store, rows),
+        Some(shown) => take_row::<C>(command, id, shown, journal, rows),
     }
 }
 
@@ -359,18 +359,18 @@ pub(crate) fn delete_row<'a, C: Caller>(
     command: &Command<'a>,
     condition: &'a Option<Boxed<RExpr>>,
     id: u64,
-    store: &mut Store,
+    journal: &mut Journal,
     rows: Rows,
     caller: &mut C,
 ) -> Result<Rows, Unsettled>
-    ensures reads { (inner : Sub C) → Sees C.calls command.now store.old.now.tables inner
-        → Reads (spec.deletes (setting_of C.calls inner command.now) condition.now id
-        (progress store.old.now.tables rows) caller.old)
-        (reached result store.new.now.tables) caller.new }
-    ensures only { ChangesOnly command.now.change.now.table store.old store.new }
+    ensures reads { (snapshot : Snapshot C) → Sees C.calls command.now journal.old.now snapshot
+        → Reads (spec.deletes (setting_of C.calls snapshot command.now) condition.now id
+        (progress journal.old.now.tables rows) caller.old)
+        (reached result journal.new.now.tables) caller.new }
+    ensures only { ChangesOnly command.now.change.now.table journal.old journal.new }
 {
-    match show_row(alloc, &*command, &*condition, id, &*store, caller) {
-        Ok(shown) => take_if::<C>(command, id, shown, store, rows),
+    match show_row(alloc, &*command, &*condition, id, &*journal, caller) {
+        Ok(shown) => take_if::<C>(command, id, shown, journal, rows),
         Err(why) => Err(why),
     }
 }

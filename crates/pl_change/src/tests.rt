@@ -1,16 +1,16 @@
 //! Commands over one table, worked out by hand.
 
-ghost use Rattle.std.specs.Prelude.{◌≡◌, IsSome, true};
-ghost use Rattle.pl_tables.specs.Named.{content_named};
+ghost use Rattle.std.specs.Prelude.{◌≡◌};
 
 use crate::change;
-use pl_base::{Arithmetic, Boxed, Cells, Comparison, Held, List, Name, Operator, Txt, Ty, Value};
-use pl_catalog::{Column, Object, Rule, RuleKind, TableDef};
+use pl_base::{
+    Arithmetic, Boxed, Cells, Comparison, Held, List, Name, Op, Operator, Txt, Ty, Value,
+};
+use pl_journal::Journal;
 use pl_resolved::{
     Aggregate, Head, RAggregate, RChain, RExpr, RGroups, RJoin, RPair, RQuery, RSource, RStep,
 };
 use pl_targets::{RChange, RRow, RRows, RWhat};
-use pl_undo::Store;
 use pl_value::{Lent, NoRoutines, Unsettled};
 use std::alloc::{AllocError, Global};
 
@@ -52,7 +52,10 @@ struct Case {
     outcome: &'static str,
 }
 
-// The rows before each command. a is NOT NULL and UNIQUE, and b CHECK (b < 100).
+/// The table t.
+const TABLE: &str = "CREATE TABLE t (a integer NOT NULL UNIQUE, b integer CHECK (b < 100))";
+
+// The rows before each command.
 const ROWS: [[Part; 2]; 3] = [
     [Part::Number(1), Part::Number(10)],
     [Part::Number(2), Part::Number(20)],
@@ -329,72 +332,27 @@ fn command(
     })
 }
 
-fn table_of(alloc: Global, name: Name) -> Result<TableDef, AllocError> {
-    let text = Txt::from_slice(alloc, b"CREATE TABLE t ..")?;
-    let mut columns = List::new(alloc);
-    for is_not_null in [true, false] {
-        columns.push(Column {
-            name: Name::NONE,
-            ty: Ty::Int,
-            is_not_null,
-            default: None,
-        })?;
-    }
-    let condition = RExpr::Binary {
-        operator: Operator::Compare(Comparison::Less),
-        operands: Boxed::new(
-            alloc,
-            RPair {
-                first: RExpr::Place { row: 0, column: 1 },
-                second: RExpr::Constant(Value::Int(100)),
-            },
-        )?,
-    };
-    let condition = Held::new(condition);
-    let mut rules = List::new(alloc);
-    let unique = List::from_slice(alloc, &[0])?;
-    rules.push(Rule {
-        name: Name::NONE,
-        kind: RuleKind::Check(condition.into_inner()),
-    })?;
-    rules.push(Rule {
-        name: Name::NONE,
-        kind: RuleKind::Unique(unique),
-    })?;
-    Ok(TableDef {
-        name,
-        text,
-        columns,
-        rules,
-    })
-}
-
-fn has_table(store: &Store, name: Name) -> bool
-    ensures { result ≡ true → IsSome (content_named name store.now.now.tables) }
-{
-    store.tables().table(name).is_some()
-}
-
-// Runs the command, if the table is there.
+// Runs the command over t.
 fn run(
     alloc: Global,
-    table: &TableDef,
+    table: Name,
     what: What,
     returning: &[Part],
-    store: &mut Store,
+    journal: &mut Journal,
 ) -> Result<List<Cells>, Unsettled> {
-    let command = command(alloc, table.name, what, returning)?;
-    if !has_table(store, command.table) {
-        return Err(Unsettled::Memory);
-    }
+    let command = command(alloc, table, what, returning)?;
     let outer = [Lent { cells: &[] }];
-    change(alloc, &command, table, store, &outer, &mut NoRoutines)
+    change(alloc, &command, &outer, journal, &mut NoRoutines)
 }
 
-fn create(store: &mut Store, table: TableDef) -> Result<(), Unsettled> {
-    match store.create(Object::Table(table)) {
-        Ok(()) => Ok(()),
-        Err(_) => Err(Unsettled::Memory),
+// The table, if the database is that of the last commit.
+fn create(alloc: Global, journal: &mut Journal) -> Result<(), Unsettled>
+    requires { journal.old.last ≡ journal.old.now }
+{
+    let text = Txt::from_slice(alloc, TABLE.as_bytes())?;
+    match journal.apply(Op::Define { text }) {
+        Ok(true) => Ok(()),
+        Ok(false) | Err(_) => Err(Unsettled::Memory),
     }
 }
 
@@ -432,10 +390,10 @@ fn add_shown(alloc: Global, text: &mut Vec<u8>, rows: &[Cells]) -> Result<(), Al
 fn add_table(
     alloc: Global,
     text: &mut Vec<u8>,
-    store: &Store,
+    journal: &Journal,
     name: Name,
 ) -> Result<(), AllocError> {
-    let Some(table) = store.tables().table(name) else {
+    let Some(table) = journal.tables().table(name) else {
         return Ok(());
     };
     let mut is_first = true;
@@ -454,7 +412,7 @@ fn add_table(
 fn text_of(
     alloc: Global,
     shown: &[Cells],
-    store: &Store,
+    journal: &Journal,
     name: Name,
 ) -> Result<Vec<u8>, AllocError> {
     let mut text = Vec::new(alloc);
@@ -462,17 +420,17 @@ fn text_of(
     text.extend_from_slice(b": ")?;
     add_shown(alloc, &mut text, shown)?;
     text.extend_from_slice(b" | ")?;
-    add_table(alloc, &mut text, store, name)?;
+    add_table(alloc, &mut text, journal, name)?;
     Ok(text)
 }
 
 fn outcome(alloc: Global, case: &Case) -> Result<Vec<u8>, Unsettled> {
-    let table = table_of(alloc, Name::of("t").unwrap_or(Name::NONE))?;
-    let mut store = Store::new(alloc);
-    create(&mut store, table_of(alloc, table.name)?)?;
-    run(alloc, &table, What::Values(&ROWS), &[], &mut store)?;
-    let shown = run(alloc, &table, case.what, case.returning, &mut store)?;
-    Ok(text_of(alloc, shown.as_slice(), &store, table.name)?)
+    let table = Name::of("t").unwrap_or(Name::NONE);
+    let mut journal = Journal::new(alloc);
+    create(alloc, &mut journal)?;
+    run(alloc, table, What::Values(&ROWS), &[], &mut journal)?;
+    let shown = run(alloc, table, case.what, case.returning, &mut journal)?;
+    Ok(text_of(alloc, shown.as_slice(), &journal, table)?)
 }
 
 fn is_so(alloc: Global, case: &Case) -> bool {

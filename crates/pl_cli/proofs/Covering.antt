@@ -6,7 +6,7 @@ use Rattle.pl_disk.specs.Disk.{View, IsLawful, Elapses, Runs, Settled, with_atta
 use Rattle.pl_disk.specs.Lent.{each, since_attach}
 use Rattle.pl_keeper.specs.Batches.{Damage}
 use Rattle.pl_meaning.specs.Covered.{AlongFrom}
-use Rattle.pl_meaning.specs.Database.{Database}
+use Rattle.pl_undo.specs.Database.{Database}
 use Rattle.pl_meaning.proofs.Lent.{covered, start}
 use Rattle.pl_meaning.specs.Opening.{opens}
 use Rattle.pl_meaning.specs.Trace.{Event, last_commit, text}

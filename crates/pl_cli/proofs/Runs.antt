@@ -10,7 +10,7 @@ use Rattle.pl_disk.specs.declared.device.Failed.{Failed}
 use Rattle.pl_keeper.specs.Batches.{Damage}
 use Rattle.pl_keeper.specs.Store.{Has, KeepsFile}
 use Rattle.pl_meaning.specs.Covered.{AlongFrom}
-use Rattle.pl_meaning.specs.Database.{Database}
+use Rattle.pl_undo.specs.Database.{Database}
 use Rattle.pl_meaning.specs.Meaning.{AreOfFirst, IsTrace}
 use Rattle.pl_meaning.specs.Opening.{opens}
 use Rattle.pl_meaning.specs.Trace.{Event, Said, is_failed, text as text_of}

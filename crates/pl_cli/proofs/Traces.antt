@@ -2,8 +2,8 @@
 use Rattle.std.proofs.Common.{List, [], Bool, refl}
 use Rattle.pl_lex.specs.Characters.{Text}
 use Rattle.pl_meaning.proofs.Lent.{readings_some}
-use Rattle.pl_meaning.specs.Computed.{script_readings}
-use Rattle.pl_meaning.specs.Database.{Database}
+use Rattle.pl_reading.specs.Computed.{script_readings}
+use Rattle.pl_undo.specs.Database.{Database}
 use Rattle.pl_meaning.specs.Meaning.{AreOfFirst, IsTrace, trace}
 use Rattle.pl_meaning.specs.Trace.{Event}
 

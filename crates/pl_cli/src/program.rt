@@ -4,7 +4,7 @@ ghost use Rattle.std.specs.Prelude.{◌≡◌, ◌⊎◌, ◌++◌, List, ℕ, m
 ghost use Rattle.pl_disk.specs.Disk.{Continues, Runs, Settled, Untouched, with_attached};
 ghost use Rattle.pl_base.specs.Image.{Image};
 ghost use Rattle.pl_keeper.specs.Batches.{Damage, batches, spare_area};
-ghost use Rattle.pl_meaning.specs.Database.{Database};
+ghost use Rattle.pl_undo.specs.Database.{Database};
 ghost use Rattle.pl_meaning.specs.Opening.{opens};
 ghost use Rattle.pl_meaning.specs.Trace.{Event};
 ghost use Rattle.pl_session.specs.Endings.{Done, OfTrace, PrintsWhole, RunsAlong};

@@ -1,11 +1,4 @@
 pub mod Along
-pub mod Readings
-pub mod Definitions
-pub mod Plain
-pub mod OwnTexts
 pub mod Scripts
 pub mod Traces
-pub mod Sound
-pub mod Wholes
-pub mod Storable
 pub mod Lent

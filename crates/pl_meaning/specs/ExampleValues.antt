@@ -1,27 +1,32 @@
--- The values of the examples: the table n with a column c, without rows, with the row [1] and without it again, and the events of the two commands.
-use Rattle.std.specs.Prelude.{pos, List, [], ◌∷◌, codes}
+-- The values of the examples: the table n with an integer column c, without rows and with the row
+-- [1], and the events of the two commands that lead there.
+use Rattle.std.specs.Prelude.{pos, false, List, [], ◌∷◌, None, codes}
 use Rattle.pl_base.specs.declared.types.Ty.TheVariants as type
 use Rattle.pl_base.specs.declared.value.Value.TheVariants as value
-use Rattle.pl_meaning.specs.Database.{Column, Database, TableObject}
-use Rattle.pl_meaning.specs.Replies.{created, inserted}
+use Rattle.pl_catalog.specs.declared.object.Object.{Object}
+use Rattle.pl_catalog.specs.declared.object.Object.TheVariants as object
+use Rattle.pl_journal.specs.Operation.{empty}
+use Rattle.pl_print.specs.Tags.{tag_bytes}
+use Rattle.pl_print.specs.declared.reply.Tag.TheVariants.{CreateTable, Insert}
+use Rattle.pl_tables.specs.Rows.{inserted}
+use Rattle.pl_undo.specs.Database.{Database, on_rows, with_object}
 use Rattle.pl_meaning.specs.Trace.{Event, Said, Committed}
-use Rattle.pl_meaning.specs.declared.form.IntegerTable.{IntegerTable}
 
-abbrev pub n_of_c : IntegerTable
-n_of_c = record { table = codes "n"; column = codes "c" }
-
-abbrev pub columns : List Column
-columns = record { name = codes "c"; ty = type.Int } ∷ []
+abbrev pub n_of_c : Object
+n_of_c = object.Table (record {
+  name = codes "n";
+  text = codes "CREATE TABLE n (c integer)";
+  columns = record { name = codes "c"; ty = type.Int; is_not_null = false; default = None } ∷ [];
+  rules = [];
+})
 
 abbrev pub made : Database
-made = TableObject (record { name = codes "n"; columns = columns; rows = []; next = 1 }) ∷ []
+made = with_object n_of_c empty
 
 abbrev pub filled : Database
-filled = TableObject (record { name = codes "n"; columns = columns; rows = (1, value.Int (pos 1) ∷ []) ∷ []; next = 2 }) ∷ []
-
--- and without it again
-abbrev pub emptied : Database
-emptied = TableObject (record { name = codes "n"; columns = columns; rows = []; next = 2 }) ∷ []
+filled = on_rows (codes "n") (inserted (value.Int (pos 1) ∷ [])) made
 
 abbrev pub both : List Event
-both = Committed made ∷ Said created ∷ Committed filled ∷ Said inserted ∷ []
+both =
+    Committed made ∷ Said (tag_bytes CreateTable)
+    ∷ Committed filled ∷ Said (tag_bytes (Insert 1)) ∷ []

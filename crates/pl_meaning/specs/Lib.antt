@@ -1,15 +1,8 @@
-pub mod Form
-pub mod Reading
-pub mod Definition
-pub mod Database
-pub mod Operation
 pub mod Opening
 pub mod Trace
 pub mod Covered
 pub mod Replies
-pub mod Catalogue
 pub mod Selection
+pub mod Changing
 pub mod Meaning
-pub mod Computed
 pub mod ExampleValues
-pub mod Whole

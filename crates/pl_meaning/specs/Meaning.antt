@@ -1,53 +1,71 @@
--- What a script does, as the list of its events: each command that changes something is a commit and then its reply, a SELECT is its
--- rows alone, and each command that fails is its error alone.
-use Rattle.std.specs.Prelude.{◌≡◌, ◌&&◌, ℕ, ℤ, List, [], ◌∷◌, ◌++◌, Bool, Option, Some, None, if◌then◌else◌}
-use Rattle.pl_base.specs.declared.value.Value.TheVariants as value
-use Rattle.pl_codec.specs.Spelling.{is_row_id}
+-- What a script does, as the list of its events: each command that may change something is a commit
+-- and then its reply, a SELECT is its rows alone, and each command that fails is its error alone.
+use Rattle.std.specs.Prelude.{◌≡◌, ◌&&◌, List, [], ◌∷◌, ◌++◌, Bool, Option, Some, None, Ok, Err, if◌then◌else◌}
+use Rattle.pl_base.specs.declared.state.State.{State}
+use Rattle.pl_journal.specs.Definitions.{Behind, redefined}
 use Rattle.pl_lex.specs.Characters.{Text}
 use Rattle.pl_lex.specs.Lexemes.{Commands}
 use Rattle.pl_lex.specs.declared.token.Piece.{Piece}
 use Rattle.pl_tree.specs.declared.command.Command.{Command}
 use Rattle.pl_tree.specs.declared.command.Command.TheVariants as command
-use Rattle.pl_meaning.specs.Database.{Database, define, integer_column, put, next_of}
-use Rattle.pl_meaning.specs.Form.{number_in, table_by}
-use Rattle.pl_meaning.specs.Reading.{IsPieceRead}
-use Rattle.pl_meaning.specs.Replies.{error_line, created, inserted, not_supported, duplicate_table, undefined_table, limit_exceeded}
+use Rattle.pl_tree.specs.declared.command.Definition.{Definition}
+use Rattle.pl_tree.specs.declared.command.Definition.TheVariants as definition
+use Rattle.pl_tree.specs.declared.command.RoutineKind.{RoutineKind}
+use Rattle.pl_tree.specs.declared.command.RoutineKind.TheVariants.{Function, Procedure}
+use Rattle.pl_print.specs.Tags.{tag_bytes}
+use Rattle.pl_print.specs.declared.reply.Tag.{Tag}
+use Rattle.pl_print.specs.declared.reply.Tag.TheVariants as tag
+use Rattle.pl_reading.specs.Defining.{stored_by}
+use Rattle.pl_reading.specs.Reading.{IsPieceRead}
+use Rattle.pl_reading.specs.declared.reading.Reading.{Reading}
+use Rattle.pl_reading.specs.declared.reading.Reading.TheVariants.{Nothing, Refused, Spelled}
+use Rattle.pl_typing.specs.Resolved.{Resolved}
+use Rattle.pl_undo.specs.Database.{Database}
+use Rattle.pl_meaning.specs.Changing.{deletes, inserts, updates}
+use Rattle.pl_meaning.specs.Replies.{error_line, not_supported, notice_line}
 use Rattle.pl_meaning.specs.Selection.{selects}
 use Rattle.pl_meaning.specs.Trace.{Event, Said, Failed, Committed, is_failed, last_commit}
-use Rattle.pl_meaning.specs.declared.form.IntegerTable.{IntegerTable}
-use Rattle.pl_meaning.specs.declared.reading.Reading.{Reading}
-use Rattle.pl_meaning.specs.declared.reading.Reading.TheVariants.{Nothing, Refused, Spelled}
 
 -- ---- one command
 
--- the new database is committed and then the reply printed; where there is none, the error
-abbrev pub commits_or : (reply error : List ℕ) → Option Database → List Event
-commits_or reply error None = Failed error ∷ []
-commits_or reply error (Some next) = Committed next ∷ Said reply ∷ []
+abbrev pub created : RoutineKind → Tag
+created Function = tag.CreateFunction
+created Procedure = tag.CreateProcedure
 
--- a new table
-abbrev pub creates : Option IntegerTable → Database → List Event
-creates None db = Failed not_supported ∷ []
-creates (Some made) db = commits_or created duplicate_table (define made.table (integer_column made.column) db)
+abbrev pub dropped : RoutineKind → Tag
+dropped Function = tag.DropFunction
+dropped Procedure = tag.DropProcedure
 
--- a row of this number under the table's next row id, where that is one
-abbrev pub inserts_at : (table : List ℕ) (number : ℤ) → Option ℕ → Database → List Event
-inserts_at table number None db = Failed undefined_table ∷ []
-inserts_at table number (Some id) db =
-    if is_row_id id then commits_or inserted limit_exceeded (put table id (value.Int number ∷ []) db) else Failed limit_exceeded ∷ []
+-- the tag of a definition
+abbrev pub tag_of : Definition → Tag
+tag_of (definition.CreateTable table) = tag.CreateTable
+tag_of (definition.CreateRoutine routine) = created routine.kind
+tag_of (definition.CreateTrigger trigger) = tag.CreateTrigger
+tag_of (definition.DropTable if_exists name) = tag.DropTable
+tag_of (definition.DropRoutine kind if_exists name types) = dropped kind
+tag_of (definition.DropTrigger if_exists name table) = tag.DropTrigger
 
--- a new row
-abbrev pub inserts : (table : List ℕ) → Option ℤ → Database → List Event
-inserts table None db = Failed not_supported ∷ []
-inserts table (Some number) db = inserts_at table number (next_of table db) db
+-- the database is committed and then the tag printed; where it stays as it is, a notice and the tag
+abbrev pub done : Tag → Option State → Database → List Event
+done tag None db = Committed db ∷ Said (tag_bytes tag) ∷ []
+done tag (Some state) db = Said (notice_line state ++ tag_bytes tag) ∷ []
 
--- The forms that run. No other command does.
+abbrev pub redefines : Tag → Resolved Behind → List Event
+redefines tag (Ok b) = done tag b.notice b.database
+redefines tag (Err state) = Failed (error_line state) ∷ []
+
+-- a definition whose text can be stored
+abbrev pub defines : Option Definition → Text → Database → List Event
+defines None source db = Failed not_supported ∷ []
+defines (Some definition) source db = redefines (tag_of definition) (redefined definition source db)
+
+-- No other commands run.
 abbrev pub command_events : Command → Database → List Event
-command_events (command.Define definition source) db = creates (table_by definition source) db
-command_events (command.Insert insert) db = inserts insert.table (number_in insert) db
+command_events (command.Define definition source) db = defines (stored_by definition source) source db
 command_events (command.Query query) db = selects query db
-command_events (command.Update update) db = Failed not_supported ∷ []
-command_events (command.Delete delete) db = Failed not_supported ∷ []
+command_events (command.Insert insert) db = inserts insert db
+command_events (command.Update update) db = updates update db
+command_events (command.Delete delete) db = deletes delete db
 command_events (command.Do language body) db = Failed not_supported ∷ []
 command_events (command.Call name arguments) db = Failed not_supported ∷ []
 command_events command.Begin db = Failed not_supported ∷ []

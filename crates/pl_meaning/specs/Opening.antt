@@ -3,8 +3,8 @@ use Rattle.std.specs.Prelude.{List, [], ◌∷◌, ℕ, Result, Ok, Err, None, S
 use Rattle.pl_base.specs.Image.{Image}
 use Rattle.pl_base.specs.declared.area.Area.{Area}
 use Rattle.pl_keeper.specs.Batches.{Damage, Log, Stored, batches}
-use Rattle.pl_meaning.specs.Database.{Database}
-use Rattle.pl_meaning.specs.Operation.{apply_all}
+use Rattle.pl_journal.specs.Operation.{apply_all, empty}
+use Rattle.pl_undo.specs.Database.{Database}
 
 -- the database after the operations of these batches; or the place of the first of which one doesn't apply
 abbrev pub apply_batches : List Stored → Database → Result Database ℕ
@@ -17,7 +17,7 @@ in_area area (Err at) = Err (record { area = area; at = at })
 
 -- what these batches lead to, from the empty database on; or the form of the files is damaged already
 abbrev pub opened_by : Result Log Damage → Result Database Damage
-opened_by (Ok log) = in_area log.area (apply_batches log.list [])
+opened_by (Ok log) = in_area log.area (apply_batches log.list empty)
 opened_by (Err damage) = Err damage
 
 -- What the two files stand for: the database after the operations of their batches, in order. The form is judged before any

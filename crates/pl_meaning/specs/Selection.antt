@@ -16,25 +16,14 @@ use Rattle.pl_resolved.specs.declared.query.RQuery.{RQuery}
 use Rattle.pl_scope.specs.Resolution.{resolved_query}
 use Rattle.pl_tree.specs.declared.tree.Query.{Query}
 use Rattle.pl_typing.specs.Resolved.{Resolved}
+use Rattle.pl_undo.specs.Database.{Database}
 use Rattle.pl_value.specs.Frames.{Frame, Row}
 use Rattle.pl_value.specs.NoRoutines.{unknown}
 use Rattle.pl_value.specs.Reading.{Reading, got, fails}
 use Rattle.pl_value.specs.declared.world.NoRoutines.{NoRoutines}
-use Rattle.pl_meaning.specs.Catalogue.{catalogue_of}
-use Rattle.pl_meaning.specs.Database.{Database, Object, TableObject, is_named}
+use Rattle.pl_journal.specs.Rows.{tables_of}
 use Rattle.pl_meaning.specs.Replies.{error_line, limit_exceeded}
 use Rattle.pl_meaning.specs.Trace.{Event, Said, Failed}
-
--- ---- the rows of tables
-
-abbrev pub rows_in : Object → List Row
-rows_in (TableObject table) = map (λ row. row.1) table.rows
-
--- the rows of the table of this name, by row id; none where there is no such table
-abbrev pub table_rows : List ℕ → Database → List Row
-table_rows name [] = []
-table_rows name (object ∷ db) =
-    if is_named name object then rows_in object else table_rows name db
 
 -- ---- what is printed
 
@@ -58,9 +47,12 @@ is_too_long (Text t) = nat_lt text_limit (length t)
 is_too_long (Row' shape fields) = nat_lt text_limit (length (output (Row' shape fields)))
 is_too_long v = false
 
+abbrev pub has_long : List Row → Bool
+has_long rows = list_any (λ row. list_any is_too_long row) rows
+
 abbrev pub shows : List Head → List Row → List Event
 shows heads rows =
-    if list_any (λ row. list_any is_too_long row) rows then Failed limit_exceeded ∷ []
+    if has_long rows then Failed limit_exceeded ∷ []
     else Said (grid_bytes (grid_of heads rows)) ∷ []
 
 -- ---- a whole query
@@ -88,7 +80,7 @@ around = [] ∷ []
 -- the rows of the whole query, by the rows of the tables and with no routine
 abbrev pub query_rows : List RQuery → Database → Reading NoRoutines (List Row)
 query_rows queries db =
-    rows unknown queries (λ name. table_rows name db) (last_of queries) around (record {})
+    rows unknown queries (tables_of db.tables) (last_of queries) around (record {})
 
 -- the rows that are read are printed
 abbrev pub answered : {W : Type 0} → List Head → Reading W (List Row) → List Event
@@ -105,4 +97,4 @@ answers_once (Err state) db = Failed (error_line state) ∷ []
 -- All names and types are resolved before any row is read. Nothing is changed: the answer is the
 -- only event.
 unfoldable pub selects : Query → Database → List Event
-selects query db = answers_once (resolved_query (catalogue_of db) no_variables query) db
+selects query db = answers_once (resolved_query db.objects no_variables query) db

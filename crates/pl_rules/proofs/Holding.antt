@@ -4,9 +4,10 @@ use Rattle.std.specs.Option.{is_none, option_or}
 use Rattle.pl_catalog.specs.declared.object.Column.{Column}
 use Rattle.pl_catalog.specs.declared.object.Rule.{Rule}
 use Rattle.pl_catalog.specs.declared.object.TableDef.{TableDef}
-use Rattle.pl_rules.specs.Rules.{all_pass, check_failure, failing, first_failure, holds, is_before, kind_failure, lacks, least_failing, lesser, named, none_lacks, null_failure}
+use Rattle.pl_rules.specs.Rules.{all_pass, check_failure, failing, first_failure, fits, holds, is_before, kind_failure, lacks, least_failing, lesser, named, none_lacks, null_failure, rule_failure}
 use Rattle.pl_rules.specs.declared.rules.Failure.{Failure}
 use Rattle.pl_rules.specs.declared.rules.RuleFail.{RuleFail}
+use Rattle.pl_rules.specs.declared.rules.RuleFail.TheVariants.{Unfit}
 use Rattle.pl_value.specs.Frames.{Row}
 
 lacking : (b : Bool) (x : RuleFail) (o : Option RuleFail) (rest : Bool) → rest ≡ is_none o → (not b && rest) ≡ is_none (cond b (Some x) o)
@@ -48,7 +49,13 @@ none_or : (f g : Option RuleFail) → (is_none f && is_none g) ≡ is_none (opti
 none_or None g = refl
 none_or (Some f) g = refl
 
+-- what doesn't fit is a failure too
+none_unfit : (fit whole passes : Bool) (o : Option RuleFail) → (whole && passes) ≡ is_none o → (fit && whole && passes) ≡ is_none (cond fit o (Some Unfit))
+none_unfit true whole passes o is = is
+none_unfit false whole passes o is = refl
+
 pub all_hold : (table : TableDef) (row : Row) → holds table row ≡ is_none (first_failure table row)
 all_hold table row =
-    (λ i. none_null table.columns row i && none_check table.rules row i)
-    ∙ none_or (null_failure table.columns row) (check_failure table.rules row)
+    none_unfit (fits table.columns row) (none_lacks table.columns row) (all_pass table.rules row) (rule_failure table row)
+    ((λ i. none_null table.columns row i && none_check table.rules row i)
+    ∙ none_or (null_failure table.columns row) (check_failure table.rules row))

@@ -6,7 +6,7 @@ use Rattle.pl_calc.specs.Logic.{truth_of}
 use Rattle.pl_resolved.specs.declared.expression.RExpr.{RExpr}
 use Rattle.pl_rules.specs.Rules.{Answers, failure_of, no_queries, truth_over}
 use Rattle.pl_rules.specs.declared.rules.RuleFail.{RuleFail}
-use Rattle.pl_rules.specs.declared.rules.RuleFail.TheVariants.{Broken, Evaluating, Memory}
+use Rattle.pl_rules.specs.declared.rules.RuleFail.TheVariants.{Broken, Evaluating, Unfit, Memory}
 use Rattle.pl_value.specs.Frames.{Row}
 use Rattle.pl_value.specs.Meaning.{value}
 use Rattle.pl_value.specs.NoRoutines.{unknown}
@@ -29,4 +29,5 @@ pub refused : (A : Type 0) (fail : RuleFail) (failure : Option RuleFail) → fai
     → Answers {A = A} (Err fail) failure
 refused A (Broken state rule) failure is = is
 refused A (Evaluating state) failure is = is
+refused A Unfit failure is = is
 refused A Memory failure is = tt

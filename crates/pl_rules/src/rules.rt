@@ -1,10 +1,12 @@
-//! Which rule a row breaks first: NOT NULL in the order of the columns, then CHECK in the order of
-//! the names.
+//! Whether a row fits its columns, and which rule it breaks first: NOT NULL in the order of the
+//! columns, then CHECK in the order of the names.
 
-ghost use Rattle.std.specs.Prelude.{◌≡◌, IfOk, Option, option_map};
+ghost use Rattle.std.specs.Prelude.{◌≡◌, ◌&&◌, IfOk, Option, length, nat_le, option_map};
 ghost use Rattle.std.specs.Option.{is_none};
+ghost use Rattle.pl_calc.specs.Casts.{text_limit};
 ghost use Rattle.pl_calc.specs.Logic.{is_null, truth_of};
 ghost use Rattle.pl_catalog.specs.declared.object.TableDef as catalog;
+ghost use Rattle.pl_codec.specs.Spelling.{is_text};
 ghost use Rattle.pl_rules.specs.Rules as spec;
 ghost use Rattle.pl_rules.specs.declared.rules.Failure as declared;
 ghost use Rattle.pl_rules.specs.Rules.{Answers, first_failure, holds};
@@ -12,8 +14,10 @@ ghost use Rattle.pl_value.specs.Frames.{Row};
 ghost use Rattle.pl_value.specs.Reading.{settled};
 ghost use Rattle.pl_value.specs.declared.world.NoRoutines as world;
 
-use pl_base::{Cells, Memory, Name, State, Value};
+use pl_base::{Cells, Memory, Name, State, Ty, Value};
+use pl_calc::TEXT_LIMIT;
 use pl_catalog::{Column, Rule, RuleKind, TableDef};
+use pl_codec::is_text;
 use pl_resolved::RExpr;
 use pl_value::{Lent, NoQueries, NoRoutines, Unsettled, value};
 use std::alloc::Global;
@@ -25,6 +29,10 @@ pub enum RuleFail {
     Broken { state: State, rule: Name },
     /// A CHECK has no truth: its evaluation fails with this SQLSTATE.
     Evaluating(State),
+    /// The row hasn't one value for each column, of its type and such that a store can hold it:
+    /// 54000, since a text is too long. No command gives a value of another type, but that a value
+    /// has the type of its expression isn't proved.
+    Unfit,
     /// There was no memory.
     Memory,
 }
@@ -46,12 +54,22 @@ impl From<Memory> for RuleFail {
     }
 }
 
-/// Whether the row keeps NOT NULL and CHECK of its table: PostgreSQL manual, "Constraints". A CHECK
-/// whose condition is null passes. The first rule that it breaks otherwise: NOT NULL in the order
-/// of the columns, then CHECK in the order of the names by their bytes.
-#[tactic(auto, using(crate::proofs::Judged::refused))]
+/// Whether the row fits the columns of its table and keeps NOT NULL and CHECK: PostgreSQL manual,
+/// "Constraints". A CHECK whose condition is null passes. The first failure otherwise: Unfit, then
+/// NOT NULL in the order of the columns, then CHECK in the order of the names by their bytes.
 pub fn check_row(alloc: Global, table: &TableDef, row: &Cells) -> Result<(), RuleFail>
     ensures { Answers result (first_failure table.now row.now) }
+{
+    if !fits(table.columns.as_slice(), row.as_slice()) {
+        return Err(RuleFail::Unfit);
+    }
+    check_rules(alloc, table, row)
+}
+
+// The first rule that the row breaks.
+#[tactic(auto, using(crate::proofs::Judged::refused))]
+fn check_rules(alloc: Global, table: &TableDef, row: &Cells) -> Result<(), RuleFail>
+    ensures { Answers result (spec.rule_failure table.now row.now) }
 {
     if let Some(name) = null_column(table.columns.as_slice(), row.as_slice()) {
         return Err(RuleFail::Broken {
@@ -65,11 +83,48 @@ pub fn check_row(alloc: Global, table: &TableDef, row: &Cells) -> Result<(), Rul
     }
 }
 
-/// Every rule holds of a row exactly where none is broken.
+/// A row fits its columns and every rule holds of it exactly where nothing fails.
 pub fn holding_rows_break_nothing()
     ensures { (table : catalog.TableDef) (row : Row)
         → holds table row ≡ is_none (first_failure table row) }
 {}
+
+// Whether there is one value for each column, of its type.
+fn fits(mut columns: &[Column], mut row: &[Value]) -> bool
+    ensures { result ≡ spec.fits columns.entry.now row.entry.now }
+{
+    while let [column, others @ ..] = columns {
+        let Some((value, more)) = row.split_first() else {
+            return false;
+        };
+        if !is_of(column.ty, value) {
+            return false;
+        }
+        columns = others;
+        row = more;
+    }
+    row.is_empty()
+}
+
+// Whether the value is one of this type that a store can hold.
+fn is_of(ty: Ty, value: &Value) -> bool
+    ensures { result ≡ spec.is_of ty value.now }
+{
+    match value {
+        Value::Null => true,
+        Value::Int(_) => matches!(ty, Ty::Int),
+        Value::Big(_) => matches!(ty, Ty::Big),
+        Value::Bool(_) => matches!(ty, Ty::Bool),
+        Value::Text(text) => matches!(ty, Ty::Text) && is_stored_text(text.as_bytes()),
+        Value::Row(_) => false,
+    }
+}
+
+fn is_stored_text(text: &[u8]) -> bool
+    ensures { result ≡ (is_text text.now && nat_le (length text.now) text_limit) }
+{
+    is_text(text) && text.len() <= TEXT_LIMIT
+}
 
 // The first column that may not be null and is.
 fn null_column(mut columns: &[Column], mut row: &[Value]) -> Option<Name>

@@ -98,6 +98,19 @@ fn of_row(
     check_row(alloc, &table, &row)
 }
 
+fn one_value(alloc: Global, a: Value) -> Result<Cells, Memory> {
+    let mut row = List::new(alloc);
+    row.push(a)?;
+    Ok(row)
+}
+
+// The same of a row of one value, which is one too few.
+fn of_one_value(alloc: Global, table: Result<TableDef, Memory>, a: Value) -> Result<(), RuleFail> {
+    let table = table?;
+    let row = one_value(alloc, a)?;
+    check_row(alloc, &table, &row)
+}
+
 fn breaks(answer: Result<(), RuleFail>, state: State, rule: &str) -> bool {
     let Err(fail) = answer else {
         return false;
@@ -108,6 +121,7 @@ fn breaks(answer: Result<(), RuleFail>, state: State, rule: &str) -> bool {
             rule: name,
         } => broken == state && name.as_bytes() == rule.as_bytes(),
         RuleFail::Evaluating(_) => false,
+        RuleFail::Unfit => false,
         RuleFail::Memory => false,
     }
 }
@@ -119,6 +133,19 @@ fn evaluates_to(answer: Result<(), RuleFail>, state: State) -> bool {
     match fail {
         RuleFail::Evaluating(failed) => failed == state,
         RuleFail::Broken { .. } => false,
+        RuleFail::Unfit => false,
+        RuleFail::Memory => false,
+    }
+}
+
+fn is_unfit(answer: Result<(), RuleFail>) -> bool {
+    let Err(fail) = answer else {
+        return false;
+    };
+    match fail {
+        RuleFail::Unfit => true,
+        RuleFail::Broken { .. } => false,
+        RuleFail::Evaluating(_) => false,
         RuleFail::Memory => false,
     }
 }
@@ -142,4 +169,8 @@ fn a_row_breaks_its_first_rule(rt: HostRuntime) {
     assert!(rt; whole.is_ok());
     let failed = of_row(alloc, unsettled(alloc), Value::Int(0), Value::Null);
     assert!(rt; evaluates_to(failed, State::DATATYPE_MISMATCH));
+    let wide = of_row(alloc, checked(alloc, true), Value::Big(1), Value::Null);
+    assert!(rt; is_unfit(wide));
+    let short = of_one_value(alloc, checked(alloc, true), Value::Int(1));
+    assert!(rt; is_unfit(short));
 }

@@ -12,37 +12,45 @@ use std::alloc::Global;
 /// An area of generation 0 up to the length of its first frame.
 const HEAD: &[u8] = b"\x01PLPGST01\0\0\0\0\0\0\0\0\x01";
 
-/// CREATE TABLE of a table of one integer, whose name is as long as one may be.
-const DEFINE: &[u8] = b"\x01\0\0\0\x58CREATE TABLE \
-the_longest_name_of_a_table_is_of_sixty_three_bytes_like_this_o (c integer)";
+/// CREATE TABLE n (c text)
+const DEFINE: &[u8] = b"\x01\0\0\0\x17CREATE TABLE n (c text)";
 
-/// Its row of id 1 is put, with the number 7.
-const PUT: &[u8] = b"\x02\x3fthe_longest_name_of_a_table_is_of_sixty_three_bytes_like_this_o\
-\0\0\0\0\0\0\0\x01\x01\x01\0\0\0\x07";
+/// Its row of id 1 is put, up to the length of its text.
+const PUT: &[u8] = b"\x02\x01n\0\0\0\0\0\0\0\x01\x01\x03";
 
-/// How often it is put: with one row more the frames are past 2 * 18 + 4,194,304 bytes, and without
-/// it they are not.
-const PUTS: usize = 53_091;
+/// How long its text is the first times.
+const LONG: usize = 1_048_548;
 
-/// How many bytes these operations have: 93 of the table, and 79 each time.
-const PAYLOAD: u64 = 4_194_282;
+/// How often it is put so: with one row more the frames are past 2 * 18 + 4,194,304 bytes, and
+/// without it they are not.
+const TIMES: usize = 4;
+
+/// The length of its text and its text the last time.
+const LAST: &[u8] = b"\0\0\0\x01y";
+
+/// How many bytes these operations have: 28 of the table, 17 and the text each time, and 18.
+const PAYLOAD: u64 = 4_194_306;
 
 // Area A with one frame: the table and its one row, which is put again and again.
 fn long_log(alloc: Global) -> Result<Vec<u8>, Memory> {
+    let text = vec![in alloc; b'z'; LONG]?;
     let mut file = HEAD.to_vec(alloc)?;
     file.extend_from_slice(&PAYLOAD.to_be_bytes())?;
     file.extend_from_slice(DEFINE)?;
-    for _ in 0..PUTS {
+    for _ in 0..TIMES {
         file.extend_from_slice(PUT)?;
+        file.extend_from_slice(&(LONG as u32).to_be_bytes())?;
+        file.extend_from_slice(&text)?;
     }
+    file.extend_from_slice(PUT)?;
+    file.extend_from_slice(LAST)?;
     file.push(0)?;
     Ok(file)
 }
 
 // ---- a script that makes two checkpoints
 
-const INSERT: &[u8] =
-    b"INSERT INTO the_longest_name_of_a_table_is_of_sixty_three_bytes_like_this_o VALUES (1);\n";
+const INSERT: &[u8] = b"INSERT INTO n VALUES ('x');\n";
 
 /// A CREATE TABLE with a long comment: the bytes before it and behind it, 31 of them its own.
 const CREATE: &[u8] = b"CREATE TABLE t (c /*";
@@ -68,18 +76,16 @@ fn script(alloc: Global) -> Result<Vec<u8>, Memory> {
 }
 
 /// Shows the database.
-const SHOW: &[u8] =
-    b"SELECT c FROM the_longest_name_of_a_table_is_of_sixty_three_bytes_like_this_o; \
-SELECT c FROM t;";
+const SHOW: &[u8] = b"SELECT c FROM n; SELECT c FROM t;";
 
 /// What it shows after none of the two commands.
-const NONE: &[u8] = b"c\n7\n(1 row)\nERROR:  42P01: undefined_table\n";
+const NONE: &[u8] = b"c\ny\n(1 row)\nERROR:  42P01: undefined_table\n";
 
 /// After the first one.
-const ONE: &[u8] = b"c\n7\n1\n(2 rows)\nERROR:  42P01: undefined_table\n";
+const ONE: &[u8] = b"c\ny\nx\n(2 rows)\nERROR:  42P01: undefined_table\n";
 
 /// After both.
-const BOTH: &[u8] = b"c\n7\n1\n(2 rows)\nc\n(0 rows)\n";
+const BOTH: &[u8] = b"c\ny\nx\n(2 rows)\nc\n(0 rows)\n";
 
 // How many of the two commands are done where this is shown; 3 where it is something else.
 fn done(shown: &[u8]) -> usize {
@@ -134,11 +140,11 @@ fn outcome(alloc: Global) -> Report {
 
 #[test]
 fn a_run_writes_its_store_anew_twice(rt: HostRuntime) {
-    // Area B has first one frame of 351 bytes: the table, two rows and the next id; and then the
+    // Area B has first one frame of 102 bytes: the table, two rows and the next id; and then the
     // CREATE TABLE behind it. Area A has all that in one frame, and the next id of the new table.
     assert_eq!(rt;
         outcome(rt.alloc()).text(),
-        "0 2 4200367 1 4200365 INSERT 0 1\nCREATE TABLE\n"
+        "0 2 4200118 1 4200116 INSERT 0 1\nCREATE TABLE\n"
     );
 }
 

@@ -25,4 +25,6 @@ mod stops;
 #[cfg(test)]
 mod stores;
 #[cfg(test)]
+mod tables;
+#[cfg(test)]
 mod words;

@@ -1,4 +1,4 @@
-//! How the pieces of a script are answered: refusals in their order, and the forms that run.
+//! How the pieces of a script are answered: refusals in their order, and commands that run.
 
 use crate::report::Report;
 use crate::runs::{PLAIN, answer};
@@ -18,12 +18,14 @@ const TOO_GREAT: &str = "ERROR:  22003: numeric_value_out_of_range\n";
 
 const UNDEFINED: &str = "ERROR:  42P01: undefined_table\n";
 
+const CREATED: &str = "CREATE TABLE\n";
+
 const MADE: &str = "CREATE TABLE\nINSERT 0 1\n";
 
 const NAME_OF_64: &str = "SELECT aaaaaaaaaaaaaaaaaaaaaaaaaaaaaaaaaaaaaaaaaaaaaaaaaaaaaaaaaaaaaaaa;";
 
 /// Scripts that end with 0, and what they print.
-const PIECES: [(&str, &str); 29] = [
+const PIECES: [(&str, &str); 28] = [
     // The first bad lexeme comes before all else.
     (NAME_OF_64, TOO_LONG),
     ("SELECT \"\";", SYNTAX),
@@ -38,20 +40,20 @@ const PIECES: [(&str, &str); 29] = [
     // No command is spelled so.
     ("SELECT 1 2", SYNTAX),
     ("CREATE TABLE table (c integer);;", SYNTAX),
-    // A command that doesn't run.
-    ("UPDATE n SET c = ';' -- ;\n WHERE 1 = 1;", LEFT_OUT),
-    ("CREATE TABLE IF NOT EXISTS n (c integer)", LEFT_OUT),
-    ("CREATE TABLE n (c integer NOT NULL)", LEFT_OUT),
-    ("CREATE TABLE n (c bigint)", LEFT_OUT),
-    ("INSERT INTO n (c) VALUES (1)", LEFT_OUT),
-    ("INSERT INTO n AS m VALUES (1)", LEFT_OUT),
-    ("INSERT INTO n VALUES (1) RETURNING c", LEFT_OUT),
-    ("INSERT INTO n VALUES (1), (2)", LEFT_OUT),
-    ("INSERT INTO n VALUES (1 + 1)", LEFT_OUT),
-    ("INSERT INTO n VALUES (2147483648)", LEFT_OUT),
-    ("INSERT INTO n VALUES (-2147483649)", LEFT_OUT),
-    ("INSERT INTO n VALUES (2147483647)", UNDEFINED),
-    ("INSERT INTO n VALUES (-2147483648)", UNDEFINED),
+    // Commands that don't run.
+    ("BEGIN", LEFT_OUT),
+    ("DO 'x'", LEFT_OUT),
+    ("CREATE TABLE n (c integer REFERENCES m)", LEFT_OUT),
+    ("DROP FUNCTION f", LEFT_OUT),
+    // Commands that run, each with its table first.
+    ("CREATE TABLE n (c bigint NOT NULL, t text)", CREATED),
+    ("CREATE TABLE IF NOT EXISTS n (c integer)", CREATED),
+    ("DROP TABLE n", UNDEFINED),
+    ("UPDATE n SET c = ';' -- ;\n WHERE 1 = 1;", UNDEFINED),
+    ("DELETE FROM n", UNDEFINED),
+    ("INSERT INTO n (c) VALUES (1)", UNDEFINED),
+    ("INSERT INTO n AS m VALUES (1), (x) RETURNING c", UNDEFINED),
+    ("INSERT INTO n VALUES (2147483648)", UNDEFINED),
     // A byte order mark in front is no part of the script, and one behind it is.
     ("\u{feff}", ""),
     (
@@ -59,7 +61,7 @@ const PIECES: [(&str, &str); 29] = [
         MADE,
     ),
     ("\u{feff}\u{feff}SELECT 1;", SYNTAX),
-    // Nothing, and the two forms with other names.
+    // Nothing, and two commands with other names.
     (" -- a note\n; /* ; */ ;", ""),
     (
         "Create /* a */ Table \"Ä;\" (größe INT4) ; insert into \"Ä;\" values (-0)",

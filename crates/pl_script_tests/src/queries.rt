@@ -89,8 +89,8 @@ fn queries_are_answered(rt: HostRuntime) {
     }
 }
 
-// A text of so many bytes, as a value or as a field of a row.
-fn long(alloc: Global, before: &str, bytes: usize, behind: &str) -> Result<Vec<u8>, Memory> {
+/// A text of so many bytes, as a value or as a field of a row.
+pub fn long(alloc: Global, before: &str, bytes: usize, behind: &str) -> Result<Vec<u8>, Memory> {
     let mut script = Vec::from_slice(alloc, before.as_bytes())?;
     for _ in 0..bytes {
         script.push(b'x')?;
@@ -138,8 +138,8 @@ const FILLED: &[u8] = b"CREATE TABLE n (c integer);\nINSERT INTO n VALUES (1);\n
 
 const ASKED: &[u8] = b"CREATE TABLE n (c integer);\nSELECT c FROM n;\nINSERT INTO n VALUES (1);\n";
 
-// How many calls a run makes, how long the store is then, and what is printed. Calls that are
-// listed fail, having done so many bytes of their work.
+// The status of a run, how many calls it makes, how long the store is then, and what is printed.
+// Calls that are listed fail, having done so many bytes of their work.
 fn store_after(alloc: Global, script: &[u8], fail: &[u64], part: usize) -> Result<Report, Memory> {
     let mut out = Report::new(alloc);
     let (a, b) = (Vec::new(alloc), Vec::new(alloc));
@@ -152,7 +152,8 @@ fn store_after(alloc: Global, script: &[u8], fail: &[u64], part: usize) -> Resul
     Ok(out)
 }
 
-fn told(alloc: Global, script: &[u8], fail: &[u64], part: usize) -> Report {
+/// The same, as a text.
+pub fn told(alloc: Global, script: &[u8], fail: &[u64], part: usize) -> Report {
     match store_after(alloc, script, fail, part) {
         Ok(out) => out,
         Err(_) => Report::lacking(alloc),

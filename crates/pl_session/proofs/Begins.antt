@@ -15,9 +15,9 @@ use Rattle.pl_frames.specs.declared.fail.FrameFail.{FrameFail}
 use Rattle.pl_frames.specs.declared.fail.FrameFail.TheVariants as frames
 use Rattle.pl_keeper.specs.Store.{Recovering, HasSame, Recovered, IsUsed}
 use Rattle.pl_keeper.specs.declared.head.Head.{Head}
-use Rattle.pl_meaning.specs.Database.{Database}
+use Rattle.pl_undo.specs.Database.{Database}
+use Rattle.pl_journal.specs.Operation.{empty}
 use Rattle.pl_meaning.specs.Opening.{apply_batches, in_area, opened_by, opens}
-use Rattle.pl_meaning.specs.Whole.{IsSound}
 use Rattle.pl_session.specs.Halts.{start_fail_of}
 use Rattle.pl_session.specs.Lent.{area_kept, area_on, area_untouched, area_wrote}
 use Rattle.pl_session.specs.Spare.{KeepsArea}
@@ -75,7 +75,7 @@ pub form_damaged : (c : Image) (damage : Damage) → batches c ≡ Err damage �
 unfolding opens
 form_damaged c damage is = ap (λ (r : Result Log Damage). opened_by r) is
 
-pub none_applies : (c : Image) (counts : Area) (list : List Stored) (area : Area) (at : ℕ) → batches c ≡ Ok (record { area = counts; list = list }) → (area ≡ counts) × (apply_batches list [] ≡ Err at) → opens c ≡ Err (record { area = area; at = at })
+pub none_applies : (c : Image) (counts : Area) (list : List Stored) (area : Area) (at : ℕ) → batches c ≡ Ok (record { area = counts; list = list }) → (area ≡ counts) × (apply_batches list empty ≡ Err at) → opens c ≡ Err (record { area = area; at = at })
 unfolding opens
 none_applies c counts list area at is (same, stops) = ap (λ (r : Result Log Damage). opened_by r) is ∙ ap (λ (r : Result Database ℕ). in_area counts r) stops
     ∙ ap (λ (x : Area). let r : Result Database Damage = Err (record { area = x; at = at }) in r) (sym same)
@@ -107,9 +107,9 @@ fold_failed a m d on looks reader recovered fail (Err e) is cause = subst (λ (x
 
 -- files that open to nothing aren't those of a store to be made
 pub is_used : (c : Image) (damage : Damage) → opens c ≡ Err damage → IsUsed c
-is_used c damage is = λ none. clash (sym (opens_by c A [] [] (none_stored c none) refl) ∙ is)
+is_used c damage is = λ none. clash (sym (opens_by c A [] empty (none_stored c none) refl) ∙ is)
   where
-    clash : (let r : Result Database Damage = Ok [] in r ≡ Err damage) → ⊥
+    clash : (let r : Result Database Damage = Ok empty in r ≡ Err damage) → ⊥
     clash h = cc
 
 -- the area that doesn't count is left alone
@@ -132,12 +132,12 @@ pub keeps_spare_on : (area : Area) (a m d : View) → IsLawful a → IsLawful m 
 keeps_spare_on area a m d lawful lawful' told first looks = area_on area a m d lawful lawful' first (area_kept area m d (λ p. p ≡ m.printed) (looks.images told) (looks.time told))
 
 -- a session over the batches that were read
-pub started : (a m d : View) (reader : Head) (state : SessionState) → a.is_attached → Continues a m → Looks m d → (a.told → Recovered a m reader) → (m.told → Stores d state.keeper (database_in state)) → IsSound (database_in state) → state.failed ≡ None → IsStarted a d state
-started a m d reader state attached on looks recovered stores sound is_open = record {
+pub started : (a m d : View) (reader : Head) (state : SessionState) → a.is_attached → Continues a m → Looks m d → (a.told → Recovered a m reader) → (m.told → Stores d state.keeper (database_in state)) → state.journal.last ≡ state.journal.now → state.failed ≡ None → IsStarted a d state
+started a m d reader state attached on looks recovered stores settled is_open = record {
   ready = record {
     is_open = is_open;
     attached = looks.continues.is_attached (on.is_attached attached);
-    sound = sound;
+    settled = settled;
     opens_to = λ told c left. stores_open d state.keeper (database_in state) (kept told) c left;
     store = kept;
   };

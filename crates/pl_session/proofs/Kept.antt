@@ -8,12 +8,11 @@ use Rattle.pl_disk.specs.Lent.{after_writes, no_run, run_weaker, writes_weaker}
 use Rattle.pl_keeper.specs.Batches.{Damage}
 use Rattle.pl_keeper.specs.Checkpoint.{CheckpointedPayload, CheckpointingPayload, is_due, next_head}
 use Rattle.pl_keeper.specs.declared.head.Head.{Head}
+use Rattle.pl_journal.specs.Operation.{apply_payload, empty}
 use Rattle.pl_meaning.specs.Covered.{AlongFrom}
-use Rattle.pl_meaning.specs.Database.{Database}
+use Rattle.pl_undo.specs.Database.{Database}
 use Rattle.pl_meaning.specs.Opening.{opens}
-use Rattle.pl_meaning.specs.Operation.{apply_payload}
 use Rattle.pl_meaning.specs.Trace.{Event, last_commit, text}
-use Rattle.pl_meaning.specs.Whole.{IsSound}
 use Rattle.pl_session.specs.Endings.{GoesOn, RunsAlong}
 use Rattle.pl_session.specs.State.{database_in, Stores}
 use Rattle.pl_session.specs.Steps.{KeepCause, OpensTo, PieceCause, PieceEnd, StepCause}
@@ -31,19 +30,19 @@ pub no_writes : (v : View) (P : Image → Type 0) → Writes v v P
 no_writes v P = record { moments = no_run v _; printed = λ told. refl; say_faults = refl }
 
 -- each moment of a checkpoint opens to the database
-pub rewrites : (a b : View) (keeper : Head) (payload : List ℕ) (db : Database) → (a.told → Stores a keeper db) → apply_payload payload [] ≡ Some db → Writes a b (CheckpointingPayload a keeper payload) → Writes a b (OpensTo db)
+pub rewrites : (a b : View) (keeper : Head) (payload : List ℕ) (db : Database) → (a.told → Stores a keeper db) → apply_payload payload empty ≡ Some db → Writes a b (CheckpointingPayload a keeper payload) → Writes a b (OpensTo db)
 rewrites a b keeper payload db store leads run = writes_weaker a b _ (OpensTo db) run (λ told c is.
     let s = store told in
-    let it = spelled_by payload [] db leads in
+    let it = spelled_by payload empty db leads in
     ⊎_elim (λ old. opens_by c keeper.area s.list db old s.leads)
-    (λ new. opens_by c (other keeper.area) ((17, it.0) ∷ []) db new (leads_on [] 17 it.0 [] db refl it.2))
+    (λ new. opens_by c (other keeper.area) ((17, it.0) ∷ []) db new (leads_on [] 17 it.0 empty db refl it.2))
     (is it.0 it.1 s.list s.store))
 
 -- and so does the store after it
-pub rewritten : (b : View) (old new : Head) (payload : List ℕ) (db : Database) → apply_payload payload [] ≡ Some db → CheckpointedPayload b old new payload → Stores b new db
+pub rewritten : (b : View) (old new : Head) (payload : List ℕ) (db : Database) → apply_payload payload empty ≡ Some db → CheckpointedPayload b old new payload → Stores b new db
 rewritten b old new payload db leads done =
-    let it = spelled_by payload [] db leads in
-    record { list = (17, it.0) ∷ []; store = (done it.0 it.1).store; leads = leads_on [] 17 it.0 [] db refl it.2 }
+    let it = spelled_by payload empty db leads in
+    record { list = (17, it.0) ∷ []; store = (done it.0 it.1).store; leads = leads_on [] 17 it.0 empty db refl it.2 }
 
 -- the next one isn't due at once
 pub next_short : (old new : Head) (end : ℕ) → new ≡ next_head old end → is_due new ≡ false
@@ -102,12 +101,12 @@ module _ (a m d : View) (before mid : SessionState) (events : List Event) (run :
   kept_stop lawful lawful' after why (Ok failed) is cause = absurd is
   kept_stop lawful lawful' after why (Err x) is cause = kept_cause lawful lawful' x (subst (λ (y : Stop). KeepCause m d y) (sym is) cause)
 
-  pub kept_done : (after : SessionState) → after.failed ≡ None → database_in after ≡ database_in mid → (m.told → Stores d after.keeper (database_in mid)) → GoesOn a d before after events
-  kept_done after is_open same store = record {
+  pub kept_done : (after : SessionState) → after.failed ≡ None → after.journal.last ≡ mid.journal.last → database_in after ≡ database_in mid → (m.told → Stores d after.keeper (database_in mid)) → GoesOn a d before after events
+  kept_done after is_open last same store = record {
     ready = record {
       is_open = is_open;
       attached = writes.moments.continues.is_attached done.ready.attached;
-      sound = subst (λ (e : Database). IsSound e) (sym same) done.ready.sound;
+      settled = last ∙ done.ready.settled ∙ sym same;
       opens_to = λ told c left. stores_open d after.keeper (database_in after) (kept told) c left;
       store = kept;
     };

@@ -1,10 +1,5 @@
-pub mod Named
-pub mod InStep
 pub mod Answering
-pub mod Planned
 pub mod Opens
-pub mod Applying
-pub mod Spelled
 pub mod Folding
 pub mod Begins
 pub mod Says
@@ -12,3 +7,5 @@ pub mod Kept
 pub mod Ends
 pub mod Scripts
 pub mod Progress
+pub mod Redefined
+pub mod Changed

@@ -1,20 +1,22 @@
 -- From the batches of a store to the database that it opens to.
-use Rattle.std.proofs.Common.{◌≡◌, ℕ, List, [], ◌∷◌, ◌++◌, Option, Some, None, Result, Ok, Err, true, refl, sym, ◌∙◌, ap, subst}
-use Rattle.std.specs.Prelude.{is_some}
+use Rattle.std.proofs.Common.{◌≡◌, ℕ, suc, length, nat_eq, eqb-true, arith, List, [], ◌∷◌, ◌++◌, Option, Some, None, Result, Ok, Err, true, refl, sym, ◌∙◌, ap, subst}
+use Rattle.std.specs.Prelude.{is_some, option_and_then}
 use Rattle.std.proofs.lemmas.Option.{option_and_then_some}
 use Rattle.pl_base.specs.Image.{Image}
 use Rattle.pl_base.specs.declared.area.Area.{Area}
 use Rattle.pl_base.specs.declared.operation.Op.{Op}
 use Rattle.pl_disk.specs.Disk.{View, Continues, Keeps}
 use Rattle.pl_keeper.specs.Batches.{Damage, Log, Stored, batches}
-use Rattle.pl_codec.specs.Reading.{operations_of}
+use Rattle.pl_codec.specs.Reading.{operations_of, ops_within}
 use Rattle.pl_keeper.specs.Store.{Has, CommittedPayload}
 use Rattle.pl_keeper.specs.declared.head.Head.{Head}
-use Rattle.pl_meaning.specs.Database.{Database}
+use Rattle.pl_undo.specs.Database.{Database}
 use Rattle.pl_meaning.specs.Opening.{apply_batches, in_area, opened_by, opens}
-use Rattle.pl_meaning.specs.Operation.{apply_all, apply_payload}
-use Rattle.pl_meaning.specs.Whole.{IsSound}
-use Rattle.pl_meaning.proofs.Lent.{apply_all_keeps}
+use Rattle.pl_journal.specs.Journal.{LeadsTo}
+use Rattle.pl_journal.specs.Operation.{apply_all, apply_payload, empty}
+use Rattle.pl_codec.proofs.ReadsBack.{EachOp, all_back}
+use Rattle.pl_codec.specs.ReadBack.{OpReadsBack}
+use Rattle.std.specs.List.{AllByRecursion}
 use Rattle.pl_session.specs.State.{database_in, Stores, IsReady}
 use Rattle.pl_session.specs.declared.state.SessionState.{SessionState}
 
@@ -39,26 +41,49 @@ apply_batches-stopped (stored ∷ xs) ys db at is =
     [ None ↦ λ h. h | Some next ↦ λ h. apply_batches-stopped xs ys next at h ]) is
 
 -- one batch more
-pub leads_on : (list : List Stored) (at : ℕ) (ops : List Op) (db next : Database) → apply_batches list [] ≡ Ok db → apply_all ops db ≡ Some next → apply_batches (list ++ (at, ops) ∷ []) [] ≡ Ok next
-leads_on list at ops db next leads done = apply_batches-append list ((at, ops) ∷ []) [] db leads ∙ ap (λ (o : Option Database). after (at, ops) [] o) done
+pub leads_on : (list : List Stored) (at : ℕ) (ops : List Op) (db next : Database) → apply_batches list empty ≡ Ok db → apply_all ops db ≡ Some next → apply_batches (list ++ (at, ops) ∷ []) empty ≡ Ok next
+leads_on list at ops db next leads done = apply_batches-append list ((at, ops) ∷ []) empty db leads ∙ ap (λ (o : Option Database). after (at, ops) [] o) done
 
 pub some_of : {A : Type 0} (o : Option A) → is_some o ≡ true → (x : A) × (o ≡ Some x)
 some_of (Some x) is = (x, refl)
 some_of None is = absurd (cc)
 
 -- one batch more that doesn't apply
-pub stops_at : (list : List Stored) (at : ℕ) (ops : List Op) (db : Database) → apply_batches list [] ≡ Ok db → apply_all ops db ≡ None → apply_batches (list ++ (at, ops) ∷ []) [] ≡ Err at
-stops_at list at ops db leads none = apply_batches-append list ((at, ops) ∷ []) [] db leads ∙ ap (λ (o : Option Database). after (at, ops) [] o) none
+pub stops_at : (list : List Stored) (at : ℕ) (ops : List Op) (db : Database) → apply_batches list empty ≡ Ok db → apply_all ops db ≡ None → apply_batches (list ++ (at, ops) ∷ []) empty ≡ Err at
+stops_at list at ops db leads none = apply_batches-append list ((at, ops) ∷ []) empty db leads ∙ ap (λ (o : Option Database). after (at, ops) [] o) none
 
 -- the operations of a payload that leads to a database
 pub spelled_by : (payload : List ℕ) (db next : Database) → apply_payload payload db ≡ Some next → (ops : List Op) × (operations_of payload ≡ Some ops) × (apply_all ops db ≡ Some next)
 spelled_by payload db next done = option_and_then_some (λ ops. apply_all ops db) (operations_of payload) next done (λ ops spelled leads. (ops, spelled, leads))
 
--- a payload keeps a database sound
-pub payload_keeps : (payload : List ℕ) (db next : Database) → apply_payload payload db ≡ Some next → IsSound db → IsSound next
-payload_keeps payload db next done sound = let it = spelled_by payload db next done in apply_all_keeps it.0 db next it.2 sound
+each_back : (ops : List Op) → AllByRecursion OpReadsBack ops → EachOp ops
+each_back [] back = tt
+each_back (op ∷ ops) back = (back.0, each_back ops back.1)
 
-pub opens_by : (c : Image) (area : Area) (list : List Stored) (db : Database) → batches c ≡ Ok (record { area = area; list = list }) → apply_batches list [] ≡ Ok db → opens c ≡ Ok db
+-- what a payload leads to is what its operations do
+pub applied : (payload : List ℕ) (db next : Database) → LeadsTo payload db next → apply_payload payload db ≡ Some next
+applied payload db next it =
+    ap (λ (p : List ℕ). option_and_then (λ ops. apply_all ops db) (operations_of p)) it.spelled
+    ∙ ap (λ (o : Option (List Op)). option_and_then (λ ops. apply_all ops db) o) (all_back it.ops (each_back it.ops it.back))
+    ∙ it.leads
+
+no_operations : operations_of [] ≡ Some []
+unfolding operations_of ops_within
+no_operations = refl
+
+pub no_bytes : (payload : List ℕ) → nat_eq (length payload) 0 ≡ true → payload ≡ []
+no_bytes [] is = refl
+no_bytes (b ∷ bytes) is = absurd (omega (arith, eqb-true (suc (length bytes)) 0 is))
+
+-- an empty one leads nowhere
+pub nothing_applied : (payload : List ℕ) (db next : Database) → payload ≡ [] → apply_payload payload db ≡ Some next → next ≡ db
+nothing_applied payload db next none is =
+    let same : Some db ≡ Some next =
+    sym (ap (λ (o : Option (List Op)). option_and_then (λ ops. apply_all ops db) o) no_operations)
+    ∙ ap (λ (p : List ℕ). apply_payload p db) (sym none) ∙ is in
+    cc
+
+pub opens_by : (c : Image) (area : Area) (list : List Stored) (db : Database) → batches c ≡ Ok (record { area = area; list = list }) → apply_batches list empty ≡ Ok db → opens c ≡ Ok db
 unfolding opens
 opens_by c area list db has leads = ap (λ (r : Result Log Damage). opened_by r) has ∙ ap (λ (r : Result Database ℕ). in_area area r) leads
 
@@ -92,11 +117,11 @@ stores_still a d keeper db keeps s = record {
 
 -- a session stays ready where the files stay
 pub still_ready : (a d : View) (before after : SessionState) → IsReady a before → Continues a d → (a.told → Keeps a d)
-    → after.failed ≡ before.failed → after.keeper ≡ before.keeper → database_in after ≡ database_in before → IsReady d after
-still_ready a d before after was on keeps failed keeper db = record {
+    → after.failed ≡ before.failed → after.keeper ≡ before.keeper → after.journal.last ≡ before.journal.last → database_in after ≡ database_in before → IsReady d after
+still_ready a d before after was on keeps failed keeper last db = record {
   is_open = failed ∙ was.is_open;
   attached = on.is_attached was.attached;
-  sound = subst (λ (e : Database). IsSound e) (sym db) was.sound;
+  settled = last ∙ was.settled ∙ sym db;
   opens_to = λ told c left. was.opens_to (on.told_before told) c ((keeps (on.told_before told)).crash c left) ∙ ap (λ (e : Database). let r : Result Database Damage = Ok e in r) (sym db);
   store = λ told. let t = on.told_before told in let same = stores_still a d before.keeper (database_in before) (keeps t) (was.store t) in
       subst (λ (e : Database). Stores d after.keeper e) (sym db) (subst (λ (k : Head). Stores d k (database_in before)) (sym keeper) same);

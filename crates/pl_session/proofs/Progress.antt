@@ -7,11 +7,11 @@ use Rattle.pl_disk.specs.Disk.{View, Rises}
 use Rattle.pl_disk.specs.Lent.{no_run}
 use Rattle.pl_keeper.specs.Batches.{Damage}
 use Rattle.pl_lex.specs.Characters.{Text}
-use Rattle.pl_meaning.specs.Computed.{script_readings}
-use Rattle.pl_meaning.specs.Database.{Database}
+use Rattle.pl_reading.specs.Computed.{script_readings}
+use Rattle.pl_undo.specs.Database.{Database}
 use Rattle.pl_meaning.specs.Meaning.{AreOfFirst, events, trace, Readings}
 use Rattle.pl_meaning.specs.Trace.{Event, is_failed, text, last_commit}
-use Rattle.pl_meaning.specs.declared.reading.Reading.{Reading}
+use Rattle.pl_reading.specs.declared.reading.Reading.{Reading}
 use Rattle.pl_meaning.proofs.Lent.{text-append, last_commit-append, is_failed-append, both_no, trace-append, trace-one, trace-last, readings_some}
 use Rattle.pl_session.specs.Endings.{RunsAlong, Done, GoesOn, PrintsWhole, StopsBy}
 use Rattle.pl_session.specs.Scripts.{Left}

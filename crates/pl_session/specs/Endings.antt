@@ -4,7 +4,7 @@ use Rattle.pl_base.specs.Image.{Image}
 use Rattle.pl_disk.specs.Disk.{View, Runs, Rises}
 use Rattle.pl_lex.specs.Characters.{Text}
 use Rattle.pl_meaning.specs.Covered.{AlongFrom}
-use Rattle.pl_meaning.specs.Database.{Database}
+use Rattle.pl_undo.specs.Database.{Database}
 use Rattle.pl_meaning.specs.Meaning.{AreOfFirst, IsTrace}
 use Rattle.pl_meaning.specs.Opening.{opens}
 use Rattle.pl_meaning.specs.Trace.{Event, text, last_commit}

@@ -1,8 +1,6 @@
 pub mod Halts
-pub mod Texts
-pub mod Tables
 pub mod Replies
-pub mod Plans
+pub mod Performing
 pub mod State
 pub mod Short
 pub mod Starts

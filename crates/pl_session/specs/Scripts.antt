@@ -3,8 +3,8 @@ use Rattle.std.specs.Prelude.{◌≡◌, ℕ, List, [], ◌∷◌, Option, Some,
 use Rattle.pl_lex.specs.Characters.{Text}
 use Rattle.pl_lex.specs.Lexemes.{Cuts}
 use Rattle.pl_lex.specs.declared.token.Piece.{Piece}
-use Rattle.pl_meaning.specs.Computed.{readings_of}
-use Rattle.pl_meaning.specs.declared.reading.Reading.{Reading}
+use Rattle.pl_reading.specs.Computed.{readings_of}
+use Rattle.pl_reading.specs.declared.reading.Reading.{Reading}
 use Rattle.pl_session.specs.declared.script.Next.{Next}
 
 -- the readings of the pieces from a place on

@@ -1,19 +1,17 @@
 -- What the parts of a call do.
-use Rattle.std.specs.Prelude.{◌≡◌, ◌⊎◌, ◌++◌, ℕ, [], List, Bool, Option, Some, None, Result, Ok, Err}
+use Rattle.std.specs.Prelude.{◌≡◌, ◌⊎◌, ◌++◌, ℕ, List, Bool, Option, Some, None, Result, Ok, Err}
 use Rattle.pl_base.specs.Image.{Image}
 use Rattle.pl_disk.specs.Disk.{View, Rises}
+use Rattle.pl_journal.specs.Operation.{empty}
 use Rattle.pl_keeper.specs.Batches.{Stored}
-use Rattle.pl_meaning.specs.Database.{Database}
 use Rattle.pl_meaning.specs.Opening.{apply_batches, opens}
 use Rattle.pl_meaning.specs.Trace.{Event, is_failed, text}
-use Rattle.pl_meaning.specs.Whole.{IsSound}
 use Rattle.pl_session.specs.Endings.{Done, GoesOn}
 use Rattle.pl_session.specs.State.{database_in}
-use Rattle.pl_session.specs.Tables.{database_of}
 use Rattle.pl_session.specs.declared.halt.Stop.{Stop}
 use Rattle.pl_session.specs.declared.halt.Stop.TheVariants.{Disk, Say, Memory}
 use Rattle.pl_session.specs.declared.state.SessionState.{SessionState}
-use Rattle.pl_session.specs.declared.table.Table.{Table}
+use Rattle.pl_undo.specs.Database.{Database}
 
 -- nothing was done: nothing more is printed, and a crash leaves nothing new
 pub record Idle (old new : View) : Type 0 where
@@ -63,11 +61,7 @@ OpensTo db c = opens c ≡ Ok db
 abbrev pub AllOpen : View → Database → Type 0
 AllOpen v db = v.told → (c : Image) → v.may_leave c → opens c ≡ Ok db
 
--- these batches lead to the tables; or the one at this place is the first that doesn't apply
-abbrev pub LeadsTo : List Stored → List Table → (stopped : Option ℕ) → Type 0
-LeadsTo list tables None = apply_batches list [] ≡ Ok (database_of tables)
-LeadsTo list tables (Some at) = apply_batches list [] ≡ Err at
-
--- the tables are sound, unless a batch didn't apply
-abbrev pub SoundUnless : (stopped : Option ℕ) → List Table → Type 0
-SoundUnless stopped tables = stopped ≡ None → IsSound (database_of tables)
+-- these batches lead to the database; or the one at this place is the first that doesn't apply
+abbrev pub Reaches : List Stored → Database → (stopped : Option ℕ) → Type 0
+Reaches list db None = apply_batches list empty ≡ Ok db
+Reaches list db (Some at) = apply_batches list empty ≡ Err at

@@ -3,15 +3,13 @@
 ghost use Rattle.std.specs.Prelude.{◌≡◌, false, IfErr, OnOk};
 ghost use Rattle.pl_disk.specs.Disk.{Writes};
 ghost use Rattle.pl_keeper.specs.Checkpoint.{is_due};
-ghost use Rattle.pl_meaning.specs.Whole.{IsSound};
 ghost use Rattle.pl_session.specs.State.{Stores};
 ghost use Rattle.pl_session.specs.Steps.{KeepCause, OpensTo};
-ghost use Rattle.pl_session.specs.Tables.{database_of};
 
 use crate::halt::Stop;
-use crate::tables::Tables;
 use pl_disk::Host;
 use pl_frames::FrameFail;
+use pl_journal::Journal;
 use pl_keeper::Keeper;
 use std::alloc::Global;
 
@@ -23,25 +21,23 @@ pub fn keep_short<H: Host>(
     keeper: &mut Keeper,
     alloc: Global,
     host: &mut H,
-    tables: &Tables,
+    journal: &Journal,
 ) -> Result<(), Stop>
     requires attached { (H.view host.old).is_attached }
-    requires sound { IsSound (database_of tables.now.list.items) }
     requires store { (H.view host.old).told
-        → Stores (H.view host.old) keeper.old (database_of tables.now.list.items) }
+        → Stores (H.view host.old) keeper.old journal.now.now }
 
     // Nothing is printed, and each image opens to the same database.
-    ensures writes { Writes (H.view host.old) (H.view host.new)
-        (OpensTo (database_of tables.now.list.items)) }
+    ensures writes { Writes (H.view host.old) (H.view host.new) (OpensTo journal.now.now) }
     ensures store { (H.view host.old).told → OnOk result (
-        Stores (H.view host.new) keeper.new (database_of tables.now.list.items)) }
+        Stores (H.view host.new) keeper.new journal.now.now) }
     ensures short { OnOk result (is_due keeper.new ≡ false) }
     ensures cause { IfErr result (KeepCause (H.view host.old) (H.view host.new)) }
 {
     if !keeper.due() {
         return Ok(());
     }
-    let payload = tables.payload()?;
+    let payload = journal.whole()?;
     match keeper.checkpoint(alloc, host, payload.as_slice()) {
         Ok(()) => Ok(()),
         Err(FrameFail::Fault) => Err(Stop::Disk),

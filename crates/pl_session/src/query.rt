@@ -4,12 +4,11 @@ ghost use Rattle.std.specs.Prelude.{◌≡◌, ◌∷◌, [], map, IfOk};
 ghost use Rattle.std.specs.List.{list_any};
 ghost use Rattle.pl_meaning.specs.Selection as spec;
 ghost use Rattle.pl_session.specs.Replies.{event_of};
-ghost use Rattle.pl_session.specs.Tables.{database_of};
 
 use crate::reply::Reply;
-use crate::tables::Tables;
 use pl_base::{Cells, List, Memory, State, Txt, Ty, Value};
 use pl_calc::TEXT_LIMIT;
+use pl_journal::Journal;
 use pl_names::Scope;
 use pl_print::{Grid, text_of};
 use pl_query::run;
@@ -20,20 +19,20 @@ use pl_typing::ScopeFail;
 use pl_value::{Lent, NoRoutines, Unsettled};
 use std::alloc::{AllocError, Global};
 
-/// The answer to a query over these tables: its rows, or why there are none.
-pub fn select(alloc: Global, tables: &Tables, query: &Query) -> Result<Reply, Memory>
+/// The answer to a query over a database: its rows, or why there are none.
+pub fn select(alloc: Global, journal: &Journal, query: &Query) -> Result<Reply, Memory>
     ensures { IfOk result (λ reply.
-        spec.selects query.now (database_of tables.now.list.items) ≡ event_of reply ∷ []) }
+        spec.selects query.now journal.now.now ≡ event_of reply ∷ []) }
 {
-    match resolve_query(alloc, tables.catalog(), &no_variables(alloc), query) {
-        Ok(queries) => answer(alloc, tables, &queries),
+    match resolve_query(alloc, journal.catalog(), &no_variables(alloc), query) {
+        Ok(queries) => answer(alloc, journal, &queries),
         Err(ScopeFail::State(state)) => Ok(Reply::Fails(state)),
         Err(ScopeFail::Memory) => Err(Memory),
     }
 }
 
-// No variable, no parameter.
-fn no_variables(alloc: Global) -> Scope
+/// No variable, no parameter.
+pub fn no_variables(alloc: Global) -> Scope
     ensures { result ≡ spec.no_variables }
 {
     Scope {
@@ -43,16 +42,16 @@ fn no_variables(alloc: Global) -> Scope
 }
 
 // The answer to the last of these queries.
-fn answer(alloc: Global, tables: &Tables, queries: &List<RQuery>) -> Result<Reply, Memory>
+fn answer(alloc: Global, journal: &Journal, queries: &List<RQuery>) -> Result<Reply, Memory>
     ensures { IfOk result (λ reply.
-        spec.answers queries.now (database_of tables.now.list.items) ≡ event_of reply ∷ []) }
+        spec.answers queries.now journal.now.now ≡ event_of reply ∷ []) }
 {
     let around = [Lent { cells: &[] }];
     let last = last_of(queries);
     match run(
         alloc,
         queries.as_slice(),
-        tables,
+        journal,
         last,
         &around,
         &mut NoRoutines,
@@ -70,16 +69,23 @@ fn show(alloc: Global, heads: &[Head], rows: List<Cells>) -> Result<Reply, Memor
     if has_long(alloc, rows.as_slice())? {
         return Ok(Reply::Fails(State::PROGRAM_LIMIT_EXCEEDED));
     }
-    Ok(Reply::Rows(Grid {
+    Ok(Reply::Rows(grid_of(alloc, heads, rows)?))
+}
+
+/// The rows below their headings.
+pub fn grid_of(alloc: Global, heads: &[Head], rows: List<Cells>) -> Result<Grid, Memory>
+    ensures { IfOk result (λ grid. grid ≡ spec.grid_of heads.now rows) }
+{
+    Ok(Grid {
         heads: headings(alloc, heads)?,
         types: types(alloc, heads)?,
         rows,
-    }))
+    })
 }
 
-fn has_long(alloc: Global, mut rows: &[Cells]) -> Result<bool, Memory>
-    ensures { IfOk result (λ found.
-        found ≡ list_any (λ row. list_any spec.is_too_long row) rows.entry.now) }
+/// Whether a value of these rows is too long to be printed.
+pub fn has_long(alloc: Global, mut rows: &[Cells]) -> Result<bool, Memory>
+    ensures { IfOk result (λ found. found ≡ spec.has_long rows.entry.now) }
 {
     while let [row, rest @ ..] = rows {
         if has_long_value(alloc, row.as_slice())? {

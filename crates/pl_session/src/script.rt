@@ -1,13 +1,13 @@
 //! A script, piece by piece.
 
 ghost use Rattle.std.specs.Prelude.{◌<◌, ◌≤◌, List, length, IfOk, IfSome};
-ghost use Rattle.pl_meaning.specs.Computed.{MeansAlike};
-ghost use Rattle.pl_meaning.specs.declared.reading.Reading.{Reading as OneReading};
+ghost use Rattle.pl_reading.specs.Computed.{MeansAlike};
+ghost use Rattle.pl_reading.specs.declared.reading.Reading.{Reading as OneReading};
 ghost use Rattle.pl_session.specs.Scripts.{Left, IsNextReading};
 
 use pl_base::Memory;
 use pl_lex::cut;
-use pl_meaning::{Reading, read_piece};
+use pl_reading::{Reading, read_piece};
 use std::alloc::Global;
 
 /// A piece of a script.

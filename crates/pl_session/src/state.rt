@@ -1,50 +1,42 @@
 //! A session: the database in memory, and the keeper of the store that holds it.
 
-ghost use Rattle.std.specs.Prelude.{true, false, ◌≡◌, ◌&&◌, ◌++◌, ◌∷◌, [], Some, None, Err, is_some, IfOk, IfErr, OnOk, IsErrOf};
-ghost use Rattle.pl_codec.specs.Reading.{operations_of};
+ghost use Rattle.std.specs.Prelude.{true, false, ◌≡◌, ◌&&◌, ◌++◌, ◌∷◌, [], None, Some, Err, IfOk, IfErr, OnOk, IsErrOf};
 ghost use Rattle.pl_disk.specs.Disk.{Keeps, Runs, Settled, Untouched};
 ghost use Rattle.pl_keeper.specs.Batches.{Damage, spare_area};
 ghost use Rattle.pl_keeper.specs.Checkpoint.{is_due};
-ghost use Rattle.pl_meaning.specs.Computed.{MeansAlike};
-ghost use Rattle.pl_meaning.specs.Database.{Database};
-ghost use Rattle.pl_meaning.specs.Meaning.{events, commits_or};
+ghost use Rattle.pl_reading.specs.Computed.{MeansAlike};
+ghost use Rattle.pl_meaning.specs.Meaning.{events};
 ghost use Rattle.pl_meaning.specs.Opening.{opens};
-ghost use Rattle.pl_meaning.specs.Operation.{apply_payload};
-ghost use Rattle.pl_meaning.specs.Replies.{error_line};
 ghost use Rattle.pl_meaning.specs.Trace.{Said, Committed, is_failed};
-ghost use Rattle.pl_print.specs.Tags.{tag_bytes};
 ghost use Rattle.pl_session.specs.Endings.{OfTrace, RunsAlong, GoesOn, StopsBy, HasCause, outcome_of, ended_of};
-ghost use Rattle.pl_session.specs.Plans.{Spells};
 ghost use Rattle.pl_session.specs.Replies.{lines_of, event_of};
 ghost use Rattle.pl_session.specs.Short.{StaysShort};
 ghost use Rattle.pl_session.specs.Spare.{KeepsArea};
 ghost use Rattle.pl_session.specs.Starts.{StartPair, OpensSame, IsStarted, HasStartCause};
 ghost use Rattle.pl_session.specs.State.{database_in, Stores, IsReady};
 ghost use Rattle.pl_session.specs.Steps.{AllOpen, PieceEnd, StepCause, StepEnd};
-ghost use Rattle.pl_session.specs.Tables.{changed};
 ghost use Rattle.pl_session.specs.declared.halt.Halt.TheVariants.{Closed};
 ghost use Rattle.pl_session.specs.declared.halt.Stop.{Stop};
+ghost use Rattle.pl_undo.specs.Database.{Database};
 
 use crate::halt::{Ended, Halt, Outcome, StartFail, Stop};
 use crate::keeping::keep_short;
 use crate::opening::fold;
-use crate::plan::{Plan, plan_of};
+use crate::performing::{Performed, perform};
 use crate::reply::Reply;
 use crate::script::read_next;
-use crate::tables::{Change, Tables};
-use pl_base::State;
 use pl_disk::Host;
 use pl_frames::FrameFail;
+use pl_journal::Journal;
 use pl_keeper::Keeper;
-use pl_meaning::Reading;
-use pl_print::Tag;
+use pl_reading::Reading;
 use std::alloc::Global;
 
 /// What a session knows besides its host. Every call takes the same host.
 #[derive(Drop)]
 pub struct SessionState {
     alloc: Global,
-    tables: Tables,
+    journal: Journal,
     keeper: Keeper,
     failed: Option<Stop>,
 }
@@ -65,69 +57,61 @@ fn answer<H: Host>(alloc: Global, host: &mut H, reply: Reply) -> Result<(), Stop
     }
 }
 
-// Commits the operations of a payload and then prints the reply.
+// Commits what was changed since the last commit. Where nothing was, no call of the host is made.
+fn commit<H: Host>(
+    keeper: &mut Keeper,
+    alloc: Global,
+    host: &mut H,
+    journal: &Journal,
+) -> Result<(), Stop>
+    requires attached { (H.view host.old).is_attached }
+    requires store { (H.view host.old).told
+        → Stores (H.view host.old) keeper.old journal.now.last }
+    ensures moments { RunsAlong (H.view host.old) (H.view host.new)
+        (Committed journal.now.now ∷ []) journal.now.last }
+    ensures store { (H.view host.old).told
+        → OnOk result (Stores (H.view host.new) keeper.new journal.now.now) }
+    ensures printed { (H.view host.old).told
+        → (H.view host.new).printed ≡ (H.view host.old).printed }
+    ensures cause { IfErr result (StepCause (H.view host.old) (H.view host.new)) }
+{
+    let payload = journal.payload();
+    if payload.is_empty() {
+        return Ok(());
+    }
+    match keeper.commit_payload(alloc, host, payload) {
+        Ok(()) => Ok(()),
+        Err(FrameFail::Fault) => Err(Stop::Disk),
+        Err(FrameFail::Memory) => Err(Stop::Memory),
+        Err(FrameFail::Damaged { .. }) => unreachable!(),
+    }
+}
+
+// Commits what was changed and then prints the reply.
 fn commit_then_answer<H: Host>(
     keeper: &mut Keeper,
     alloc: Global,
     host: &mut H,
-    payload: &[u8],
-    reply: Tag,
+    journal: &Journal,
+    reply: Reply,
 ) -> Result<(), Stop>
     requires attached { (H.view host.old).is_attached }
-    requires spelling { is_some (operations_of payload.now) ≡ true }
     requires store { (H.view host.old).told
-        → (db : Database) × Stores (H.view host.old) keeper.old db }
-    ensures moments { (db next : Database)
-        → ((H.view host.old).told → Stores (H.view host.old) keeper.old db)
-        → apply_payload payload.now db ≡ Some next
-        → RunsAlong (H.view host.old) (H.view host.new)
-        (Committed next ∷ Said (tag_bytes reply) ∷ []) db }
-    ensures store { (H.view host.old).told → OnOk result ((db next : Database)
-        → Stores (H.view host.old) keeper.old db
-        → apply_payload payload.now db ≡ Some next
-        → Stores (H.view host.new) keeper.new next) }
+        → Stores (H.view host.old) keeper.old journal.now.last }
+    ensures moments { RunsAlong (H.view host.old) (H.view host.new)
+        (Committed journal.now.now ∷ Said (lines_of reply) ∷ []) journal.now.last }
+    ensures store { (H.view host.old).told
+        → OnOk result (Stores (H.view host.new) keeper.new journal.now.now) }
     ensures printed { (H.view host.old).told
-        → OnOk result ((H.view host.new).printed ≡ (H.view host.old).printed ++ tag_bytes reply) }
+        → OnOk result ((H.view host.new).printed ≡ (H.view host.old).printed ++ lines_of reply) }
     ensures cause { IfErr result (StepCause (H.view host.old) (H.view host.new)) }
 {
-    let line = Reply::Done(reply).lines(alloc)?;
-    match keeper.commit_payload(alloc, host, payload) {
-        Ok(()) => {}
-        Err(FrameFail::Fault) => return Err(Stop::Disk),
-        Err(FrameFail::Memory) => return Err(Stop::Memory),
-        Err(FrameFail::Damaged { .. }) => unreachable!(),
-    }
-    match host.say(line.as_slice()) {
+    let lines = reply.lines(alloc)?;
+    commit(keeper, alloc, host, journal)?;
+    match host.say(lines.as_slice()) {
         Ok(()) => Ok(()),
         Err(_) => Err(Stop::Say),
     }
-}
-
-// Makes a change if it can be made, commits it and then prints the reply; or prints the error. The
-// answer is whether it was an error.
-fn try_change<H: Host>(
-    state: &mut SessionState,
-    host: &mut H,
-    payload: &[u8],
-    change: Change,
-    reply: Tag,
-    error: State,
-) -> Result<bool, Stop>
-    requires spelled { Spells payload.now change (database_in state.old) }
-    requires ready { IsReady (H.view host.old) state.old }
-    ensures moments { RunsAlong (H.view host.old) (H.view host.new)
-        (commits_or (tag_bytes reply) (error_line error) (changed change (database_in state.old)))
-        (database_in state.old) }
-    ensures ended { StepEnd (H.view host.old) (H.view host.new) state.old state.new
-        (commits_or (tag_bytes reply) (error_line error) (changed change (database_in state.old)))
-        result }
-{
-    if !state.tables.change(change)? {
-        answer(state.alloc, host, Reply::Fails(error))?;
-        return Ok(true);
-    }
-    commit_then_answer(&mut state.keeper, state.alloc, host, payload, reply)?;
-    Ok(false)
 }
 
 // Whether a script ends at a command.
@@ -168,10 +152,10 @@ impl SessionState {
             (H.view host.old) (H.view host.new) }
     {
         let reader = Keeper::recover(alloc, host)?;
-        let (tables, keeper) = fold(alloc, host, reader)?;
+        let (journal, keeper) = fold(alloc, host, reader)?;
         Ok(SessionState {
             alloc,
-            tables,
+            journal,
             keeper,
             failed: None,
         })
@@ -193,19 +177,18 @@ impl SessionState {
         ensures ended { StepEnd (H.view host.old) (H.view host.new) self.old self.new
             (events reading (database_in self.old)) result }
     {
-        match plan_of(self.alloc, &self.tables, reading)? {
-            Plan::Nothing => Ok(false),
-            Plan::Answers(reply) => {
+        match perform(self.alloc, &mut self.journal, reading)? {
+            Performed::Nothing => Ok(false),
+            Performed::Answers(reply) => {
                 let is_error = reply.is_error();
                 answer(self.alloc, host, reply)?;
                 Ok(is_error)
             }
-            Plan::Tries {
-                payload,
-                change,
-                reply,
-                error,
-            } => try_change(self, host, payload.as_slice(), change, reply, error),
+            Performed::Commits(reply) => {
+                commit_then_answer(&mut self.keeper, self.alloc, host, &self.journal, reply)?;
+                self.journal.seal();
+                Ok(false)
+            }
         }
     }
 
@@ -221,7 +204,7 @@ impl SessionState {
         ensures short { OnOk result (is_due self.new.keeper ≡ false) }
     {
         let failed = self.run_reading(host, reading)?;
-        keep_short(&mut self.keeper, self.alloc, host, &self.tables)?;
+        keep_short(&mut self.keeper, self.alloc, host, &self.journal)?;
         Ok(failed)
     }
 

@@ -1,5 +1,5 @@
 use Rattle.std.proofs.Common.{◌++◌, ◌∙◌, ℕ, List, [], map, sym, ap}
-use Rattle.pl_change.proofs.Slots.{live_more}
+use Rattle.pl_journal.proofs.Slots.{live_more}
 use Rattle.pl_tables.specs.Slots.{before}
 use Rattle.pl_value.specs.Frames.{Row}
 use Rattle.pl_change.proofs.at_start.ids_in.Goals as goal

@@ -10,15 +10,15 @@ use Rattle.pl_value.specs.Frames.{rows_of}
 use Rattle.pl_change.proofs.commands.insert.Goals as goal
 
 pub returns-in-Values-clause-reads : goal.returns-in-Values-clause-reads
-returns-in-Values-clause-reads g c inner sees =
-    let s = setting_of g.C.Caller.calls inner c.args.command.now in
-    let p = progress c.args.store.now.now.tables [] in
-    subst (λ (source : RRows). Reads {A = Progress} (inserts s (rows_of c.args.outer.now) source p c.args.caller.now) (reached c.insert_values.result c.insert_values.new.store.now.tables) c.insert_values.new.caller) (sym c.in-Values.is)
-    (subst (λ (list : List RRow). Reads {A = Progress} (in_turn (adds_values s) list p c.args.caller.now) (reached c.insert_values.result c.insert_values.new.store.now.tables) c.insert_values.new.caller) c.as_slice.ensures (c.insert_values.ensures.reads inner sees))
+returns-in-Values-clause-reads g c snapshot sees =
+    let s = setting_of g.C.Caller.calls snapshot c.args.command.now in
+    let p = progress c.args.journal.now.now.tables [] in
+    subst (λ (source : RRows). Reads {A = Progress} (inserts s (rows_of c.args.outer.now) source p c.args.caller.now) (reached c.insert_values.result c.insert_values.new.journal.now.tables) c.insert_values.new.caller) (sym c.in-Values.is)
+    (subst (λ (list : List RRow). Reads {A = Progress} (in_turn (adds_values s) list p c.args.caller.now) (reached c.insert_values.result c.insert_values.new.journal.now.tables) c.insert_values.new.caller) c.as_slice.ensures (c.insert_values.ensures.reads snapshot sees))
 
 pub returns-in-Query-clause-reads : goal.returns-in-Query-clause-reads
-returns-in-Query-clause-reads g c inner sees =
-    let s = setting_of g.C.Caller.calls inner c.args.command.now in
-    let p = progress c.args.store.now.now.tables [] in
-    subst (λ (source : RRows). Reads {A = Progress} (inserts s (rows_of c.args.outer.now) source p c.args.caller.now) (reached c.insert_query.result c.insert_query.new.store.now.tables) c.insert_query.new.caller) (sym c.in-Query.is)
-    (subst (λ (list : List RExpr). Reads {A = Progress} (inserts_found s (rows_of c.args.outer.now) c.in-Query.query list p c.args.caller.now) (reached c.insert_query.result c.insert_query.new.store.now.tables) c.insert_query.new.caller) c.as_slice-in-Query.ensures (c.insert_query.ensures.reads inner sees))
+returns-in-Query-clause-reads g c snapshot sees =
+    let s = setting_of g.C.Caller.calls snapshot c.args.command.now in
+    let p = progress c.args.journal.now.now.tables [] in
+    subst (λ (source : RRows). Reads {A = Progress} (inserts s (rows_of c.args.outer.now) source p c.args.caller.now) (reached c.insert_query.result c.insert_query.new.journal.now.tables) c.insert_query.new.caller) (sym c.in-Query.is)
+    (subst (λ (list : List RExpr). Reads {A = Progress} (inserts_found s (rows_of c.args.outer.now) c.in-Query.query list p c.args.caller.now) (reached c.insert_query.result c.insert_query.new.journal.now.tables) c.insert_query.new.caller) c.as_slice-in-Query.ensures (c.insert_query.ensures.reads snapshot sees))

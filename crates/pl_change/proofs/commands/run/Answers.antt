@@ -7,16 +7,16 @@ use Rattle.pl_value.specs.Frames.{rows_of}
 use Rattle.pl_change.proofs.commands.run.Goals as goal
 
 pub returns-in-Insert-clause-reads : goal.returns-in-Insert-clause-reads
-returns-in-Insert-clause-reads g c inner sees =
-    subst (λ (what : RWhat). Reads {A = Progress} (does (setting_of g.C.Caller.calls inner c.args.command.now) (rows_of c.args.outer.now) what (progress c.args.store.now.now.tables []) c.args.caller.now) (reached c.insert.result c.insert.new.store.now.tables) c.insert.new.caller)
-    (sym c.in-Insert.is) (c.insert.ensures.reads inner sees)
+returns-in-Insert-clause-reads g c snapshot sees =
+    subst (λ (what : RWhat). Reads {A = Progress} (does (setting_of g.C.Caller.calls snapshot c.args.command.now) (rows_of c.args.outer.now) what (progress c.args.journal.now.now.tables []) c.args.caller.now) (reached c.insert.result c.insert.new.journal.now.tables) c.insert.new.caller)
+    (sym c.in-Insert.is) (c.insert.ensures.reads snapshot sees)
 
 pub returns-in-Update-clause-reads : goal.returns-in-Update-clause-reads
-returns-in-Update-clause-reads g c inner sees =
-    subst (λ (what : RWhat). Reads {A = Progress} (does (setting_of g.C.Caller.calls inner c.args.command.now) (rows_of c.args.outer.now) what (progress c.args.store.now.now.tables []) c.args.caller.now) (reached c.update.result c.update.new.store.now.tables) c.update.new.caller)
-    (sym c.in-Update.is) (c.update.ensures.reads inner sees)
+returns-in-Update-clause-reads g c snapshot sees =
+    subst (λ (what : RWhat). Reads {A = Progress} (does (setting_of g.C.Caller.calls snapshot c.args.command.now) (rows_of c.args.outer.now) what (progress c.args.journal.now.now.tables []) c.args.caller.now) (reached c.update.result c.update.new.journal.now.tables) c.update.new.caller)
+    (sym c.in-Update.is) (c.update.ensures.reads snapshot sees)
 
 pub returns-in-Delete-clause-reads : goal.returns-in-Delete-clause-reads
-returns-in-Delete-clause-reads g c inner sees =
-    subst (λ (what : RWhat). Reads {A = Progress} (does (setting_of g.C.Caller.calls inner c.args.command.now) (rows_of c.args.outer.now) what (progress c.args.store.now.now.tables []) c.args.caller.now) (reached c.delete.result c.delete.new.store.now.tables) c.delete.new.caller)
-    (sym c.in-Delete.is) (c.delete.ensures.reads inner sees)
+returns-in-Delete-clause-reads g c snapshot sees =
+    subst (λ (what : RWhat). Reads {A = Progress} (does (setting_of g.C.Caller.calls snapshot c.args.command.now) (rows_of c.args.outer.now) what (progress c.args.journal.now.now.tables []) c.args.caller.now) (reached c.delete.result c.delete.new.journal.now.tables) c.delete.new.caller)
+    (sym c.in-Delete.is) (c.delete.ensures.reads snapshot sees)

@@ -11,9 +11,9 @@ use Rattle.pl_value.specs.Meaning.{Sub, passes, value}
 use Rattle.pl_change.proofs.evaluation.passes_where.Goals as goal
 
 pub returns-in-Some : goal.returns-in-Some
-returns-in-Some g c inner sees =
-    subst (λ (o : Option RExpr). Reads {A = Bool} (product.passes (option_map (value g.C.Caller.calls inner) o) (rows_of c.args.frame.now) c.args.caller.now) c.passes_in.result c.passes_in.new.caller) (sym c.in-Some.is)
-    (subst (λ (e : RExpr). Reads {A = Bool} (passes (value g.C.Caller.calls inner e) (rows_of c.args.frame.now) c.args.caller.now) c.passes_in.result c.passes_in.new.caller) c.get.ensures
+returns-in-Some g c snapshot sees =
+    subst (λ (o : Option RExpr). Reads {A = Bool} (product.passes (option_map (value g.C.Caller.calls snapshot.inner) o) (rows_of c.args.frame.now) c.args.caller.now) c.passes_in.result c.passes_in.new.caller) (sym c.in-Some.is)
+    (subst (λ (e : RExpr). Reads {A = Bool} (passes (value g.C.Caller.calls snapshot.inner e) (rows_of c.args.frame.now) c.args.caller.now) c.passes_in.result c.passes_in.new.caller) c.get.ensures
     (subst (λ (i : Sub _). Reads {A = Bool} (passes (value g.C.Caller.calls i c.get.result.now) (rows_of c.args.frame.now) c.args.caller.now) c.passes_in.result c.passes_in.new.caller)
-    (ap (λ (qs : List RQuery). rows g.C.Caller.calls qs (seen c.args.command.now.change.now.table c.args.command.now.start.now c.args.store.now.now.tables)) c.as_slice.ensures ∙ sym sees)
+    (ap (λ (qs : List RQuery). rows g.C.Caller.calls qs (seen c.args.command.now.change.now.table c.args.command.now.start.now c.args.journal.now.now.tables)) c.as_slice.ensures ∙ sym sees.inner)
     c.passes_in.ensures))

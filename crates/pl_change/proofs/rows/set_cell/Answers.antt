@@ -1,5 +1,5 @@
 use Rattle.std.proofs.Common.{sym, arith}
-use Rattle.pl_change.proofs.Slots.{set_past}
+use Rattle.std.proofs.lemmas.List.{set_past}
 use Rattle.pl_change.proofs.rows.set_cell.Goals as goal
 
 pub returns-else-column-len : goal.returns-else-column-len

@@ -1,5 +1,5 @@
 use Rattle.std.proofs.Common.{◌≡◌, ◌⊎◌, ◌∙◌, ◌∷◌, ◌++◌, [], Ok, Err, List, ℕ, inl, inr, ⊎_elim, map, ap, refl, sym, subst, string_bytes}
-use Rattle.pl_meaning.specs.Database.{Database}
+use Rattle.pl_undo.specs.Database.{Database}
 use Rattle.pl_meaning.specs.Opening.{opens}
 use Rattle.pl_meaning.specs.Trace.{Event, Said}
 use Rattle.pl_keeper.specs.Batches.{Damage, batches, spare_area}

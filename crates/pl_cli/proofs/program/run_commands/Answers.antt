@@ -1,5 +1,5 @@
 use Rattle.std.proofs.Common.{⊎_elim, ◌≡◌, ◌∙◌, Bool, true, false, Result, Ok, refl, sym, ap}
-use Rattle.pl_meaning.specs.Database.{Database}
+use Rattle.pl_undo.specs.Database.{Database}
 use Rattle.pl_keeper.specs.Batches.{Damage}
 use Rattle.pl_session.specs.Endings.{ended_of}
 use Rattle.pl_session.specs.State.{database_in}

@@ -1,22 +1,18 @@
 use Rattle.std.proofs.Common.{refl}
 use Rattle.std.specs.Fmt.{digits}
+use Rattle.pl_base.specs.Condition.{conditions}
 use Rattle.pl_meaning.proofs.examples.examples_hold.Goals as goal
 
 pub returns : goal.returns
-unfolding digits
+unfolding digits conditions
 returns c = record {
-  creates = refl;
-  creates_no_second = refl;
-  inserts = refl;
-  inserts_nowhere = refl;
-  inserts_no_number = refl;
-  removes = (refl, refl);
-  raises = (refl, refl);
   text = refl;
   commits = refl;
   last = refl;
   fails = refl;
   does_not_fail = refl;
+  error = refl;
+  notice = refl;
   before_all = (refl, refl);
   in_the_first = (refl, refl);
   between = (refl, refl);

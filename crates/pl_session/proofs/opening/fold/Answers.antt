@@ -1,11 +1,10 @@
-use Rattle.std.proofs.Common.{ℕ, ◌++◌, ◌∷◌, [], Option, Result, Ok, ap, subst, sym}
+use Rattle.std.proofs.Common.{◌∙◌, ℕ, ◌++◌, ◌∷◌, [], Option, Result, Ok, ap, subst, sym}
 use Rattle.pl_disk.specs.Lent.{looks_on, no_look}
 use Rattle.pl_keeper.specs.Reading.{IsStep, ReadsOn}
 use Rattle.pl_keeper.specs.Store.{stored}
 use Rattle.pl_keeper.specs.declared.reader.Step.{Step}
-use Rattle.pl_meaning.specs.Database.{Database}
-use Rattle.pl_meaning.specs.Whole.{IsSound}
-use Rattle.pl_session.specs.Steps.{LeadsTo}
+use Rattle.pl_undo.specs.Database.{Database}
+use Rattle.pl_session.specs.Steps.{Reaches}
 use Rattle.pl_session.proofs.Folding.{read_failed, stopped_at}
 use Rattle.pl_session.proofs.opening.fold.Goals as goal
 
@@ -17,8 +16,8 @@ pub batches-init : goal.batches-init
 batches-init g c = record {
   place = c.requires.place;
   looks = no_look (g.H.Disk.view c.args.host.now);
-  folded = λ told. record { list = []; reading = c.requires.reading told; leads = ap (λ (d : Database). let r : Result Database ℕ = Ok d in r) (sym c.new-tables.ensures) };
-  sound = λ none. subst (λ (d : Database). IsSound d) (sym c.new-tables.ensures) tt;
+  folded = λ told. record { list = []; reading = c.requires.reading told; reaches = ap (λ (d : Database). let r : Result Database ℕ = Ok d in r) (sym c.new-journal.ensures.now) };
+  settled = c.new-journal.ensures.last ∙ sym c.new-journal.ensures.now;
 }
 
 pub batches-preserved : goal.batches-preserved
@@ -33,12 +32,12 @@ batches-preserved g c =
           let before = c.next.ensures.looks.continues.told_before told in
           let folded = was.folded before in
           let step = subst (λ (s : Step). IsStep d reader folded.list s) c.in-Read.is (c.in_ok-step.ensures.step before folded.list folded.reading) in
-          record { list = folded.list ++ stored c.in-Read.batch ∷ []; reading = step.1; leads = c.in_ok-stopped-in-Read.ensures.leads folded.list folded.leads };
-      sound = c.in_ok-stopped-in-Read.ensures.sound was.sound;
+          record { list = folded.list ++ stored c.in-Read.batch ∷ []; reading = step.1; reaches = c.in_ok-stopped-in-Read.ensures.reaches folded.list folded.reaches };
+      settled = c.apply_next.ensures.settled;
     }
 
-pub returns-in_default-clause-sound : goal.returns-in_default-clause-sound
-returns-in_default-clause-sound g c = c.batches.invariant.sound c.in_default.is
+pub returns-in_default-clause-settled : goal.returns-in_default-clause-settled
+returns-in_default-clause-settled g c = c.batches.invariant.settled
 
 pub returns-in_default-clause-folded : goal.returns-in_default-clause-folded
 returns-in_default-clause-folded g c told =
@@ -46,7 +45,7 @@ returns-in_default-clause-folded g c told =
     let folded = c.batches.invariant.folded before in
     let d = g.H.Disk.view c.next.new.disk in
     let store = subst (λ (s : Step). IsStep d c.batches.reader folded.list s) c.in-End.is (c.in_ok-step.ensures.step before folded.list folded.reading) in
-    record { list = folded.list; store = store; leads = subst (λ (o : Option ℕ). LeadsTo folded.list c.batches.tables.list.items o) c.in_default.is folded.leads }
+    record { list = folded.list; store = store; leads = subst (λ (o : Option ℕ). Reaches folded.list c.batches.journal.now o) c.in_default.is folded.reaches }
 
 pub returns-in-End-clause-cause : goal.returns-in-End-clause-cause
 returns-in-End-clause-cause g c told =
@@ -56,5 +55,5 @@ returns-in-End-clause-cause g c told =
     let a = g.H.Disk.view c.args.host.now in
     let d = g.H.Disk.view c.next.new.disk in
     let store = subst (λ (s : Step). IsStep d c.batches.reader folded.list s) c.in-End.is (c.in_ok-step.ensures.step before folded.list folded.reading) in
-    stopped_at a d told (looks_on _ _ _ was.looks c.next.ensures.looks) c.in-End.keeper folded.list c.batches.tables.list.items c.head-area.result.0 c.in-Some.at store
-    (subst (λ (o : Option ℕ). LeadsTo folded.list c.batches.tables.list.items o) c.in-Some.is folded.leads) c.head-area.ensures.area
+    stopped_at a d told (looks_on _ _ _ was.looks c.next.ensures.looks) c.in-End.keeper folded.list c.batches.journal.now c.head-area.result.0 c.in-Some.at store
+    (subst (λ (o : Option ℕ). Reaches folded.list c.batches.journal.now o) c.in-Some.is folded.reaches) c.head-area.ensures.area

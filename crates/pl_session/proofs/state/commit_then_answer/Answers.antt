@@ -1,35 +1,42 @@
-use Rattle.std.proofs.Common.{◌≡◌, ◌∙◌, List, ℕ, subst}
+use Rattle.std.proofs.Common.{◌≡◌, ◌∙◌, ◌∷◌, [], List, ℕ, sym, subst}
+use Rattle.std.proofs.lemmas.List.{append-nil}
 use Rattle.pl_disk.specs.Disk.{Says}
-use Rattle.pl_print.specs.Tags.{tag_bytes}
-use Rattle.pl_session.proofs.Opens.{stores_on, stores_still, stores_open}
-use Rattle.pl_session.proofs.Says.{commit_along, said_after}
+use Rattle.pl_meaning.specs.Trace.{Said, Committed}
+use Rattle.pl_session.specs.Replies.{lines_of}
+use Rattle.pl_session.proofs.Opens.{stores_open, stores_still}
+use Rattle.pl_session.proofs.Says.{along_more, along_on, line_along}
 use Rattle.pl_session.proofs.state.commit_then_answer.Goals as goal
 
-pub returns-in-Err-Fault-clause-moments : goal.returns-in-Err-Fault-clause-moments
-returns-in-Err-Fault-clause-moments g c db next store done = commit_along _ _ c.args.keeper.now c.args.payload.now (tag_bytes c.args.reply) db next store done c.commit_payload.ensures.writes.moments
+pub returns-in_err-commit-clause-moments : goal.returns-in_err-commit-clause-moments
+returns-in_err-commit-clause-moments g c =
+    along_more (g.H.Disk.view c.args.host.now) (g.H.Disk.view c.commit.new.host) (Committed c.args.journal.now.now ∷ []) (Said (lines_of c.args.reply) ∷ []) c.args.journal.now.last c.commit.ensures.moments
 
-pub returns-in-Ok-say-clause-moments : goal.returns-in-Ok-say-clause-moments
-returns-in-Ok-say-clause-moments g c db next store done =
+pub returns-in-Ok-clause-moments : goal.returns-in-Ok-clause-moments
+returns-in-Ok-clause-moments g c =
     let a = g.H.Disk.view c.args.host.now in
-    let b = g.H.Disk.view c.commit_payload.new.disk in
-    let line : c.as_slice.result.now ≡ tag_bytes c.args.reply = c.as_slice.ensures ∙ c.in_ok-line.ensures in
-    said_after a b c.args.keeper.now c.args.payload.now (tag_bytes c.args.reply) db next store done c.commit_payload.ensures.writes.moments _ c.say.result c.commit_payload.ensures.writes.printed
-    (λ told. stores_open b c.commit_payload.new.self next (stores_on a b c.args.keeper.now c.commit_payload.new.self c.args.payload.now db next (c.in-Ok.ensures.committed told) (store told) done))
-    (subst (λ (l : List ℕ). Says l b (g.H.Disk.view c.say.new.self) c.say.result) line c.say.ensures)
-
-pub returns-in-Ok-say-clause-store : goal.returns-in-Ok-say-clause-store
-returns-in-Ok-say-clause-store g c told db next stores done =
-    let a = g.H.Disk.view c.args.host.now in
-    let b = g.H.Disk.view c.commit_payload.new.disk in
+    let b = g.H.Disk.view c.commit.new.host in
     let d = g.H.Disk.view c.say.new.self in
-    stores_still b d c.commit_payload.new.self next (c.say.ensures.images (c.commit_payload.ensures.writes.moments.continues.told told))
-    (stores_on a b c.args.keeper.now c.commit_payload.new.self c.args.payload.now db next (c.in-Ok.ensures.committed told) stores done)
+    let now = c.args.journal.now.now in
+    let line : c.as_slice.result.now ≡ lines_of c.args.reply = c.as_slice.ensures ∙ c.in_ok-lines.ensures in
+    along_on a b d (Committed now ∷ []) (Said (lines_of c.args.reply) ∷ []) c.args.journal.now.last (λ told. c.commit.ensures.printed told ∙ sym (append-nil a.printed)) c.commit.ensures.moments
+    (line_along b d (lines_of c.args.reply) now c.say.result
+    (λ told image left. stores_open b c.commit.new.keeper now (c.in_ok-commit.ensures.store (c.commit.ensures.moments.continues.told_before told)) image left)
+    (subst (λ (l : List ℕ). Says l b d c.say.result) line c.say.ensures))
+
+pub returns-in-Ok-clause-store : goal.returns-in-Ok-clause-store
+returns-in-Ok-clause-store g c told =
+    let b = g.H.Disk.view c.commit.new.host in
+    let d = g.H.Disk.view c.say.new.self in
+    stores_still b d c.commit.new.keeper c.args.journal.now.now (c.say.ensures.images (c.commit.ensures.moments.continues.told told)) (c.in_ok-commit.ensures.store told)
 
 pub returns-clause-moments : goal.returns-clause-moments
-returns-clause-moments g c db next store done =
+returns-clause-moments g c =
     let a = g.H.Disk.view c.args.host.now in
-    let b = g.H.Disk.view c.commit_payload.new.disk in
-    let line : c.as_slice.result.now ≡ tag_bytes c.args.reply = c.as_slice.ensures ∙ c.in_ok-line.ensures in
-    said_after a b c.args.keeper.now c.args.payload.now (tag_bytes c.args.reply) db next store done c.commit_payload.ensures.writes.moments _ c.say.result c.commit_payload.ensures.writes.printed
-    (λ told. stores_open b c.commit_payload.new.self next (stores_on a b c.args.keeper.now c.commit_payload.new.self c.args.payload.now db next (c.in-Ok.ensures.committed told) (store told) done))
-    (subst (λ (l : List ℕ). Says l b (g.H.Disk.view c.say.new.self) c.say.result) line c.say.ensures)
+    let b = g.H.Disk.view c.commit.new.host in
+    let d = g.H.Disk.view c.say.new.self in
+    let now = c.args.journal.now.now in
+    let line : c.as_slice.result.now ≡ lines_of c.args.reply = c.as_slice.ensures ∙ c.in_ok-lines.ensures in
+    along_on a b d (Committed now ∷ []) (Said (lines_of c.args.reply) ∷ []) c.args.journal.now.last (λ told. c.commit.ensures.printed told ∙ sym (append-nil a.printed)) c.commit.ensures.moments
+    (line_along b d (lines_of c.args.reply) now c.say.result
+    (λ told image left. stores_open b c.commit.new.keeper now (c.in_ok-commit.ensures.store (c.commit.ensures.moments.continues.told_before told)) image left)
+    (subst (λ (l : List ℕ). Says l b d c.say.result) line c.say.ensures))

@@ -24,13 +24,10 @@ returns-clause-moments g c =
 pub returns-clause-ended : goal.returns-clause-ended
 returns-clause-ended g c =
     let done = c.in_ok-failed.ensures.ended in
-    (kept_done _ _ _ c.args.self.now c.run_reading.new.self _ c.run_reading.ensures.moments done.0 c.keep_short.ensures.writes _ done.0.ready.is_open refl c.in_ok-keep_short.ensures.store, done.1)
+    (kept_done _ _ _ c.args.self.now c.run_reading.new.self _ c.run_reading.ensures.moments done.0 c.keep_short.ensures.writes _ done.0.ready.is_open refl refl c.in_ok-keep_short.ensures.store, done.1)
 
 pub keep_short-requires-clause-attached : goal.keep_short-requires-clause-attached
 keep_short-requires-clause-attached g c = c.in_ok-failed.ensures.ended.0.ready.attached
-
-pub keep_short-requires-clause-sound : goal.keep_short-requires-clause-sound
-keep_short-requires-clause-sound g c = c.in_ok-failed.ensures.ended.0.ready.sound
 
 pub keep_short-requires-clause-store : goal.keep_short-requires-clause-store
 keep_short-requires-clause-store g c = c.in_ok-failed.ensures.ended.0.ready.store

@@ -19,29 +19,29 @@ returns-in_err-reader-clause-untouched g c told damage is = c.recover.ensures.un
 pub returns-in_err-reader-clause-spare : goal.returns-in_err-reader-clause-spare
 returns-in_err-reader-clause-spare g c told = keeps_spare _ _ told c.recover.ensures.writes (c.recover.ensures.area_b told) (c.recover.ensures.untouched told)
 
-pub returns-in_err-tables-clause-moments : goal.returns-in_err-tables-clause-moments
-returns-in_err-tables-clause-moments g c =
+pub returns-in_err-journal-clause-moments : goal.returns-in_err-journal-clause-moments
+returns-in_err-journal-clause-moments g c =
     let a = g.H.Disk.view c.args.host.now in
     let m = g.H.Disk.view c.recover.new.disk in
     let d = g.H.Disk.view c.fold.new.host in
     starts_on a m d (g.met.H.Disk.lawful c.args.host.now) (g.met.H.Disk.lawful c.recover.new.disk) c.recover.ensures.writes c.fold.ensures.looks
 
-pub returns-in_err-tables-clause-settled : goal.returns-in_err-tables-clause-settled
-returns-in_err-tables-clause-settled g c told =
+pub returns-in_err-journal-clause-settled : goal.returns-in_err-journal-clause-settled
+returns-in_err-journal-clause-settled g c told =
     let a = g.H.Disk.view c.args.host.now in
     let m = g.H.Disk.view c.recover.new.disk in
     let d = g.H.Disk.view c.fold.new.host in
     settles_on a m d (g.met.H.Disk.lawful c.recover.new.disk) (c.recover.ensures.writes.moments.continues.told told) (c.recover.ensures.settled told) c.fold.ensures.looks
 
-pub returns-in_err-tables-clause-untouched : goal.returns-in_err-tables-clause-untouched
-returns-in_err-tables-clause-untouched g c told damage is =
+pub returns-in_err-journal-clause-untouched : goal.returns-in_err-journal-clause-untouched
+returns-in_err-journal-clause-untouched g c told damage is =
     let a = g.H.Disk.view c.args.host.now in
     let m = g.H.Disk.view c.recover.new.disk in
     let d = g.H.Disk.view c.fold.new.host in
     untouched_on a m d (c.recover.ensures.writes.moments.continues.told told) (c.recover.ensures.untouched told (is_used _ damage is)) c.fold.ensures.looks
 
-pub returns-in_err-tables-clause-spare : goal.returns-in_err-tables-clause-spare
-returns-in_err-tables-clause-spare g c told =
+pub returns-in_err-journal-clause-spare : goal.returns-in_err-journal-clause-spare
+returns-in_err-journal-clause-spare g c told =
     let a = g.H.Disk.view c.args.host.now in
     let m = g.H.Disk.view c.recover.new.disk in
     let d = g.H.Disk.view c.fold.new.host in
@@ -49,13 +49,13 @@ returns-in_err-tables-clause-spare g c told =
     keeps_spare_on (spare_area a.seen) a m d (g.met.H.Disk.lawful c.args.host.now told) (g.met.H.Disk.lawful c.recover.new.disk now) now
     (keeps_spare a m told c.recover.ensures.writes (c.recover.ensures.area_b told) (c.recover.ensures.untouched told)) c.fold.ensures.looks
 
-pub returns-in_err-tables-clause-cause : goal.returns-in_err-tables-clause-cause
-returns-in_err-tables-clause-cause g c =
+pub returns-in_err-journal-clause-cause : goal.returns-in_err-journal-clause-cause
+returns-in_err-journal-clause-cause g c =
     let a = g.H.Disk.view c.args.host.now in
     let m = g.H.Disk.view c.recover.new.disk in
     let d = g.H.Disk.view c.fold.new.host in
-    fold_failed a m d c.recover.ensures.writes.moments.continues c.fold.ensures.looks c.in_ok-reader.reader c.in_ok-reader.ensures.recovered c.in_err-tables.field-0.0 c.from_residual-in_err-tables.result c.from_residual-in_err-tables.ensures.1
-    c.in_err-tables.ensures.cause
+    fold_failed a m d c.recover.ensures.writes.moments.continues c.fold.ensures.looks c.in_ok-reader.reader c.in_ok-reader.ensures.recovered c.in_err-journal.field-0.0 c.from_residual-in_err-journal.result c.from_residual-in_err-journal.ensures.1
+    c.in_err-journal.ensures.cause
 
 pub returns-clause-moments : goal.returns-clause-moments
 returns-clause-moments g c =
@@ -92,4 +92,4 @@ returns-clause-started g c =
     let a = g.H.Disk.view c.args.host.now in
     let m = g.H.Disk.view c.recover.new.disk in
     let d = g.H.Disk.view c.fold.new.host in
-    started a m d c.in_ok-reader.reader _ c.requires c.recover.ensures.writes.moments.continues c.fold.ensures.looks c.in_ok-reader.ensures.recovered c.in_ok-tables.ensures.folded c.in_ok-tables.ensures.sound refl
+    started a m d c.in_ok-reader.reader _ c.requires c.recover.ensures.writes.moments.continues c.fold.ensures.looks c.in_ok-reader.ensures.recovered c.in_ok-journal.ensures.folded c.in_ok-journal.ensures.settled refl

@@ -1,0 +1,9 @@
+pub mod Rows
+pub mod Writing
+pub mod Definitions
+pub mod Operation
+pub mod Sound
+pub mod Whole
+pub mod Written
+pub mod Journal
+pub mod Steps

@@ -1,0 +1,17 @@
+//! A database that keeps its rules, and the operations by which it was changed since the last
+//! commit.
+#![tactic(auto)]
+
+mod applying;
+mod defining;
+mod journal;
+mod lending;
+mod spelling;
+mod whole;
+mod writing;
+
+pub use journal::Journal;
+pub use whole::whole_leads_to_itself;
+
+#[cfg(test)]
+mod tests;

@@ -1,5 +1,0 @@
-use Rattle.pl_meaning.proofs.Definitions.{computed, found}
-use Rattle.pl_meaning.proofs.definition.one_definition.Goals as goal
-
-pub returns : goal.returns
-returns c = record { is = λ text table. (computed text table, found text table) }

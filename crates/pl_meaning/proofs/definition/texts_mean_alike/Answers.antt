@@ -1,5 +1,0 @@
-use Rattle.pl_meaning.proofs.OwnTexts.{means_alike}
-use Rattle.pl_meaning.proofs.definition.texts_mean_alike.Goals as goal
-
-pub returns : goal.returns
-returns c = record { is = λ text from piece x source next read. means_alike text from piece x source next read }

@@ -1,0 +1,4 @@
+pub mod Readings
+pub mod Definitions
+pub mod Plain
+pub mod OwnTexts

@@ -1,0 +1,4 @@
+pub mod Reading
+pub mod Defining
+pub mod Definition
+pub mod Computed
