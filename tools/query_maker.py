@@ -1,4 +1,4 @@
-"""Random queries of the grammar that plpg reads, over tables of one column.
+"""Random queries of the grammar that plpg reads.
 
 What the server is known to reply to otherwise isn't made (docs/DECISIONS.md): literals alone as an operand of IN and
 of BETWEEN, casts to the own type, keys that are the front of a chain, constants as keys, one query in brackets of its
@@ -31,7 +31,7 @@ class Column:
 
 
 class Maker:
-    """Makes queries over these tables, each given by its name and its column."""
+    """Makes queries over these tables, each given by its name and its columns."""
 
     def __init__(self, seed, tables):
         self.random, self.tables = random.Random(seed), tables
@@ -165,9 +165,9 @@ class Maker:
     def some_source(self, depth, taken):
         outer = [] if self.chance(0.1) else [it for level in self.levels for it in level]
         name = self.choose([it for it in ALIASES if it not in taken and it not in outer])
-        table, column = self.choose(self.tables)
+        table, columns = self.choose(self.tables)
         if depth <= 0 or self.chance(0.8):
-            return Source(f"{table} {name}"), {name: [column]}
+            return Source(f"{table} {name}"), {name: columns}
         if self.chance(0.1):
             text, type = self.choose(("abs(-5)", INTEGER), ("length('ab')", INTEGER), ("upper('a')", TEXT))
             return Source(f"{text} {name}"), {name: [Column(name, type, 5)]}
