@@ -114,7 +114,7 @@ impl Journal {
     }
 
     /// Puts the row in the place of the one of this id, in the table of this name: PostgreSQL
-    /// manual, "UPDATE". It fails as `insert` does, but for 54000.
+    /// manual, "UPDATE". It fails as `insert` does; a full table is no failure here.
     pub fn replace(&mut self, name: Name, id: u64, row: Cells) -> Result<(), Unsettled>
         requires there { IsSome (row_named name id self.old.now.tables) }
         ensures leads { Leads (written self.old.now.objects name (Some id) row
