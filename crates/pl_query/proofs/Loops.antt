@@ -1,6 +1,7 @@
 -- Things one after another, from a place on.
-use Rattle.std.proofs.Common.{◌≡◌, ◌<◌, ◌≤◌, ◌+◌, sym, ap, ◌∙◌, ℕ, zero, suc, List, [], ◌∷◌, Some, map, drop, get_or, length, slice_get, add-one}
-use Rattle.std.proofs.lemmas.List.{drop_all, drop_more}
+use Rattle.std.proofs.Common.{◌≡◌, ◌<◌, ◌≤◌, ◌+◌, sym, ap, ◌∙◌, ℕ, zero, suc, List, [], ◌∷◌, Some, map, drop, get_or, length, slice_get, take, ◌++◌, add-one}
+use Rattle.std.proofs.lemmas.List.{drop_all, drop_more, map_more}
+use Rattle.std.proofs.lemmas.Option.{get_or_from_slice_get, slice_get_within}
 use Rattle.pl_query.proofs.Front.{front}
 use Rattle.pl_query.specs.Rows.{in_turn}
 use Rattle.pl_value.specs.Reading.{Reading, got, then_read}
@@ -44,3 +45,11 @@ turn_or adds xs i d lt done w reads = reads ∙ ap (λ (ys : List _). in_turn ad
 pub turns_end : {W A B : Type 0} {whole : Reading W B} (adds : A → B → W → Reading W B) (xs : List A) (i : ℕ) → length xs ≤ i → (done : B) (w : W)
     → whole ≡ in_turn adds (drop i xs) done w → whole ≡ got done w
 turns_end adds xs i le done w reads = reads ∙ ap (λ (ys : List _). in_turn adds ys done w) (drop_all i xs le)
+
+-- what was made of the things before a place, and of the one there
+pub made_at : {A B : Type 0} (f : A → B) (xs : List A) (i : ℕ) (x : A) → slice_get xs i ≡ Some x → (made made' : List B) → made ≡ map f (take i xs) → made' ≡ made ++ f x ∷ [] → made' ≡ map f (take (i + 1) xs)
+made_at f xs i x is made made' before more =
+    more
+    ∙ (ap (λ (ys : List _). ys ++ f x ∷ []) before
+    ∙ (ap (λ (y : _). map f (take i xs) ++ f y ∷ []) (sym (get_or_from_slice_get xs i x x is))
+    ∙ sym (map_more f xs i x (slice_get_within xs i x is))))

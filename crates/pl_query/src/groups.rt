@@ -18,7 +18,7 @@ use crate::sources::expression_of;
 use pl_base::{Cells, List, Value};
 use pl_calc::CalcFail;
 use pl_groups::Column;
-use pl_product::{Frames, passes_if, with_empty};
+use pl_product::{Frames, passes_if, with_empty, with_room};
 use pl_resolved::{RExpr, RGroups};
 use pl_value::{Caller, Lent, Subqueries, Unsettled, values};
 use std::alloc::{AllocError, Global};
@@ -37,8 +37,8 @@ pub fn select_each<'a, C: Caller, S: Subqueries<C>>(
         result caller.new }
 {
     let mut rows = Rows::new(alloc);
-    for frame in frames.as_slice() {
-        match add_row(alloc, items, sub, frame.as_slice(), rows, caller) {
+    for at in 0..frames.len() {
+        match add_row(alloc, items, sub, frames.get(at), rows, caller) {
             Ok(more) => rows = more,
             Err(unsettled) => return Err(unsettled),
         }
@@ -113,7 +113,7 @@ fn stand_for_group<'a>(
     ensures { IfOk result (λ made.
         rows_of made.items ≡ rows_of outer.now ++ values.now ∷ rows_of rows.now) }
 {
-    let mut made = Vec::from_slice(alloc, outer)?;
+    let mut made = with_room(alloc, outer, rows.len() + 1)?;
     made.push(Lent { cells: values })?;
     made.extend_from_slice(rows)?;
     Ok(made)

@@ -1,15 +1,23 @@
-use Rattle.std.proofs.Common.{◌≡◌, ◌∙◌, ◌+◌, refl, ap, suc, List, [], length, map, arith}
+use Rattle.std.proofs.Common.{◌≡◌, ◌∙◌, ◌+◌, refl, sym, ap, suc, List, [], length, map, arith}
 use Rattle.std.proofs.lemmas.List.{length-map}
+use Rattle.pl_groups.specs.Tallies.{shown}
 use Rattle.pl_query.proofs.Kept.{members_of, members_stop}
 use Rattle.pl_query.specs.Query.{grouping}
 use Rattle.pl_query.specs.Rows.{Member, grouped, in_turn, with_group, with_member}
-use Rattle.pl_query.specs.Running.{Kept, kept}
+use Rattle.pl_query.specs.Running.{Kept, Made, kept}
 use Rattle.pl_resolved.specs.declared.query.RAggregate.{RAggregate}
 use Rattle.pl_value.specs.Frames.{Row, rows_of}
 use Rattle.pl_value.specs.Meaning.{value}
 use Rattle.pl_value.specs.Steps.{goes, stops}
 use Rattle.pl_value.specs.declared.operand.Lent.{Lent}
 use Rattle.pl_query.proofs.groups.select_by_groups.Goals as goal
+
+pub add_rows-requires-clause-columns : goal.add_rows-requires-clause-columns
+add_rows-requires-clause-columns g c =
+    let none : RAggregate → Made = λ (a : RAggregate). (a.aggregate, []) in
+    sym (length-map c.in_ok-made.made.columns.items shown)
+    ∙ (ap (λ (k : Kept). length k.columns) c.in_ok-made.ensures
+    ∙ (length-map c.as_slice.result.now none ∙ ap length c.as_slice.ensures))
 
 pub returns-in-Ok : goal.returns-in-Ok
 returns-in-Ok g c =
