@@ -5,7 +5,7 @@ mod Zipped
 mod Behind
 mod Loops
 mod Before
-mod SourceEquations
+pub mod SourceEquations
 mod Shortened
 mod Chosen
 mod Kept

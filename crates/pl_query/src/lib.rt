@@ -14,9 +14,9 @@ mod tables;
 mod within;
 
 pub use rows::Rows;
-pub use store::Lender;
+pub use store::{Lender, Store};
 pub use tables::Tables;
-pub use within::{Below, evaluate, run, run_before};
+pub use within::{Queries, evaluate, run};
 
 #[cfg(test)]
 mod tests;

@@ -64,6 +64,37 @@ impl<
     }
 }
 
+/// The queries of a statement, over what lends the rows of their tables.
+#[derive(Drop)]
+pub struct Queries<'a, T> {
+    pub list: &'a [RQuery],
+    pub tables: &'a T,
+}
+
+impl<'a, C: Caller, T: Lender> Subqueries<C> for Queries<'a, T> {
+    ghost sub = { λ q. spec.rows C.calls q.list.now (T.table q.tables.now) };
+
+    ghost can = { λ _. Unit {0} };
+
+    fn rows(
+        &self,
+        alloc: Global,
+        query: usize,
+        frame: &[Lent<'_>],
+        caller: &mut C,
+    ) -> Result<List<Cells>, Unsettled> {
+        run_before(
+            alloc,
+            self.list,
+            self.tables,
+            self.list.len(),
+            query,
+            frame,
+            caller,
+        )
+    }
+}
+
 /// The query of this number.
 pub fn at_number(queries: &[RQuery], at: usize) -> Option<&RQuery>
     ensures { option_copied result ≡ slice_get queries.now at }
@@ -140,11 +171,9 @@ pub fn evaluate<'a, C: Caller, T: Tables>(
         result caller.new }
 {
     let store = Store::new(alloc, &*tables, &*queries, frame.len())?;
-    let below = Below {
-        queries: &*queries,
+    let inside = Queries {
+        list: &*queries,
         tables: &store,
-        limit: queries.len(),
-        run: run_before,
     };
-    value(alloc, e, &below, frame, caller)
+    value(alloc, e, &inside, frame, caller)
 }

@@ -1,0 +1,5 @@
+mod Lists
+mod Parts
+mod Alike
+mod Names
+mod Queries
