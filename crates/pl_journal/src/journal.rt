@@ -4,6 +4,7 @@ ghost use Rattle.std.specs.Prelude.{◌≡◌, None, Some, IsSome, OnOk, OnErr};
 ghost use Rattle.pl_journal.specs.Definitions.{redefined};
 ghost use Rattle.pl_journal.specs.Journal.{ChangesOnly, Leads, LeadsTo, Redefines};
 ghost use Rattle.pl_journal.specs.Operation.{empty};
+ghost use Rattle.pl_journal.specs.Sound.{IsSound};
 ghost use Rattle.pl_journal.specs.Writing.{written};
 ghost use Rattle.pl_reading.specs.Computed.{definition_in};
 ghost use Rattle.pl_tables.specs.Named.{row_named};
@@ -73,6 +74,14 @@ impl Journal {
         ensures { result.now.current ≡ self.now.now.tables }
     {
         self.store.tables()
+    }
+
+    /// What holds of the database at any time: the rows of each table keep its rules, their ids
+    /// rise, and no two have the same key. It does nothing.
+    pub fn is_sound(&self)
+        ensures { IsSound self.now.now }
+    {
+        let _store = &self.store;
     }
 
     /// The operations since the last commit, spelled. Empty where nothing was changed.
