@@ -1,3 +1,4 @@
+mod Alike
 mod Assigned
-mod Snapshots
+mod Copying
 mod Turns

@@ -1,39 +1,51 @@
-//! The tables as the queries inside a command see them.
+//! Tables as they are when a command begins.
 
 ghost use Rattle.std.specs.Prelude.{◌≡◌, [], ◌++◌, map, IfOk, OnOk};
 ghost use Rattle.pl_change.specs.Changes as spec;
-ghost use Rattle.pl_change.specs.Running.{seen};
+ghost use Rattle.pl_change.specs.Running.{copied, copy_of};
+ghost use Rattle.pl_inside.specs.Agreement.{AgreeOn};
 ghost use Rattle.pl_journal.specs.Rows.{tables_of};
 ghost use Rattle.pl_tables.specs.Slots.{before, live};
 ghost use Rattle.pl_value.specs.Frames.{rows_of};
 
-use pl_base::{Cells, Name, Value, copy_each};
+use pl_base::{Cells, List, Name, Value, copy_each};
 use pl_journal::Journal;
 use pl_query::Tables;
 use pl_tables::Slot;
 use pl_value::Lent;
 use std::alloc::{AllocError, Global};
 
-/// The tables as they were when a command began, which changes one of them alone.
-#[derive(Clone, Copy)]
-pub struct AtStart<'t> {
-    pub journal: &'t Journal,
-    /// The table that is changed.
+/// The rows of a table as they were when a command began.
+#[derive(Drop)]
+pub struct Copied {
     pub name: Name,
-    /// Its rows when the command began.
-    pub rows: &'t [Cells],
+    pub rows: List<Cells>,
 }
 
-impl<'r> Tables for AtStart<'r> {
-    ghost table = { λ a. seen a.name a.rows.now a.journal.now.now.tables };
+/// The tables that the queries inside a command read, as they were when it began.
+#[derive(Drop)]
+pub struct Copies {
+    pub list: Vec<Copied>,
+}
+
+impl Tables for Copies {
+    ghost table = { λ c. copied c.list.items };
 
     fn read<'t>(&'t self, alloc: Global, name: Name) -> Result<Vec<Lent<'t>>, AllocError> {
-        if self.name == name {
-            lend_rows(alloc, &*self.rows)
-        } else {
-            self.journal.read(alloc, name)
+        lend_rows(alloc, rows_in(self.list.as_slice(), name))
+    }
+}
+
+// The rows of the table of this name; none where it isn't copied.
+fn rows_in(list: &[Copied], name: Name) -> &[Cells]
+    ensures { result.now ≡ copied list.now name }
+{
+    for table in list {
+        if table.name == name {
+            return table.rows.as_slice();
         }
     }
+    &[]
 }
 
 fn lend_rows<'s>(alloc: Global, rows: &'s [Cells]) -> Result<Vec<Lent<'s>>, AllocError>
@@ -48,22 +60,35 @@ fn lend_rows<'s>(alloc: Global, rows: &'s [Cells]) -> Result<Vec<Lent<'s>>, Allo
     Ok(lent)
 }
 
-/// A copy of the rows of the table of this name.
-pub(crate) fn copy_table(
+/// Copies of the tables of these names.
+pub(crate) fn copy_tables(
     alloc: Global,
     journal: &Journal,
-    name: Name,
-) -> Result<Vec<Cells>, AllocError>
-    ensures { IfOk result (λ copied. copied.items ≡ tables_of journal.now.now.tables name) }
+    names: &[Name],
+) -> Result<Copies, AllocError>
+    ensures { IfOk result (λ copies. AgreeOn names.now (copied copies.list.items)
+        (tables_of journal.now.now.tables)) }
 {
-    let rows = journal.read(alloc, name)?;
-    copy_rows(alloc, rows.as_slice())
+    let mut list = Vec::new(alloc);
+    for name in names {
+        list.push(copy_table(alloc, journal, *name)?)?;
+    }
+    Ok(Copies { list })
 }
 
-fn copy_rows(alloc: Global, rows: &[Lent<'_>]) -> Result<Vec<Cells>, AllocError>
-    ensures { IfOk result (λ copied. copied.items ≡ rows_of rows.now) }
+// A copy of the table of this name.
+fn copy_table(alloc: Global, journal: &Journal, name: Name) -> Result<Copied, AllocError>
+    ensures { IfOk result (λ table. table ≡ copy_of journal.now.now.tables name) }
 {
-    let mut copied = Vec::new(alloc);
+    let lent = journal.read(alloc, name)?;
+    let rows = copy_rows(alloc, lent.as_slice())?;
+    Ok(Copied { name, rows })
+}
+
+fn copy_rows(alloc: Global, rows: &[Lent<'_>]) -> Result<List<Cells>, AllocError>
+    ensures { IfOk result (λ copied. copied ≡ rows_of rows.now) }
+{
+    let mut copied = List::new(alloc);
     for row in rows {
         copied.push(copy_row(alloc, row.cells)?)?;
     }

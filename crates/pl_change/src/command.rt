@@ -1,6 +1,5 @@
 //! What a command needs for each of its rows.
 
-use pl_base::Cells;
 use pl_targets::RChange;
 use pl_value::Lent;
 
@@ -8,8 +7,6 @@ use pl_value::Lent;
 #[derive(Clone, Copy)]
 pub struct Command<'c> {
     pub change: &'c RChange,
-    /// The rows of its table when the command began, if there are queries inside.
-    pub start: &'c [Cells],
     /// The rows around the command, and the empty one behind them.
     pub around: &'c [Lent<'c>],
 }

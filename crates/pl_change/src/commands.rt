@@ -1,38 +1,43 @@
 //! Whole commands.
 
-ghost use Rattle.std.specs.Prelude.{◌≡◌, ◌≢◌, [], IfOk};
+ghost use Rattle.std.specs.Prelude.{◌≡◌, [], List};
+ghost use Rattle.pl_catalog.specs.declared.object.Object.{Object};
 ghost use Rattle.pl_change.specs.Changes as spec;
 ghost use Rattle.pl_change.specs.Changes.{progress};
-ghost use Rattle.pl_change.specs.Running.{reached, setting_of, Sees, Snapshot};
+ghost use Rattle.pl_change.specs.Running.{adds_from, does_from, inserts_from, reached, rows_over};
+ghost use Rattle.pl_change.specs.Running.{setting_of};
 ghost use Rattle.pl_journal.specs.Journal.{ChangesOnly};
-ghost use Rattle.pl_journal.specs.Rows.{tables_of};
 ghost use Rattle.pl_query.specs.Rows.{in_turn};
 ghost use Rattle.pl_value.specs.Answers.{Reads};
 ghost use Rattle.pl_value.specs.Frames.{rows_of};
 
 use crate::Command;
-use crate::at_start::{copy_table, ids_of};
-use crate::evaluation::{find, stand};
+use crate::asking::asks;
+use crate::at_start::{copy_tables, ids_of};
+use crate::evaluation::stand;
 use crate::rows::{add_row, delete_row, update_row};
 use pl_base::{Boxed, Cells, List};
+use pl_inside::tables_read;
 use pl_journal::Journal;
-use pl_query::Rows;
+use pl_query::{Queries, Rows, Store, run as run_query};
 use pl_resolved::RExpr;
 use pl_targets::{RChange, RRow, RRows, RWhat};
-use pl_value::{Caller, Lent, Unsettled};
-use std::alloc::{AllocError, Global};
+use pl_value::{Caller, Lent, NoQueries, Subqueries, Unsettled};
+use std::alloc::Global;
 
 // The rows of VALUES.
-fn insert_values<'a, C: Caller>(
+fn insert_values<'a, C: Caller, S: Subqueries<C>>(
     alloc: Global,
     command: &Command<'a>,
     list: &'a [RRow],
+    sub: &S,
     journal: &mut Journal,
     caller: &mut C,
 ) -> Result<Rows, Unsettled>
-    ensures reads { (snapshot : Snapshot C) → Sees C.calls command.now journal.old.now snapshot
-        → Reads (in_turn (spec.adds_values (setting_of C.calls snapshot command.now)) list.now
-        (progress journal.old.now.tables []) caller.old)
+    requires { S.can sub.now }
+    ensures reads { (objects : List Object) → objects ≡ journal.old.now.objects
+        → Reads (in_turn (spec.adds_values (setting_of C.calls (S.sub sub.now) objects command.now))
+        list.now (progress journal.old.now.tables []) caller.old)
         (reached result journal.new.now.tables) caller.new }
     ensures only { ChangesOnly command.now.change.now.table journal.old journal.new }
 {
@@ -42,6 +47,7 @@ fn insert_values<'a, C: Caller>(
             alloc,
             &*command,
             row.values.as_slice(),
+            sub,
             &*command.around,
             journal,
             rows,
@@ -55,18 +61,20 @@ fn insert_values<'a, C: Caller>(
 }
 
 // One row for a row that was found.
-fn insert_one<'a, C: Caller>(
+fn insert_one<'a, C: Caller, S: Subqueries<C>>(
     alloc: Global,
     command: &Command<'a>,
     values: &'a [RExpr],
     found: &'a Cells,
+    sub: &S,
     journal: &mut Journal,
     rows: Rows,
     caller: &mut C,
 ) -> Result<Rows, Unsettled>
-    ensures reads { (snapshot : Snapshot C) → Sees C.calls command.now journal.old.now snapshot
-        → Reads (spec.adds_found (setting_of C.calls snapshot command.now) values.now found.now
-        (progress journal.old.now.tables rows) caller.old)
+    requires { S.can sub.now }
+    ensures reads { (objects : List Object) → objects ≡ journal.old.now.objects
+        → Reads (spec.adds_found (setting_of C.calls (S.sub sub.now) objects command.now) values.now
+        found.now (progress journal.old.now.tables rows) caller.old)
         (reached result journal.new.now.tables) caller.new }
     ensures only { ChangesOnly command.now.change.now.table journal.old journal.new }
 {
@@ -75,6 +83,7 @@ fn insert_one<'a, C: Caller>(
         alloc,
         &*command,
         values,
+        sub,
         frame.as_slice(),
         journal,
         rows,
@@ -83,23 +92,25 @@ fn insert_one<'a, C: Caller>(
 }
 
 // One row for each row that was found.
-fn insert_found<'a, C: Caller>(
+fn insert_found<'a, C: Caller, S: Subqueries<C>>(
     alloc: Global,
     command: &Command<'a>,
     values: &'a [RExpr],
     found: &'a [Cells],
+    sub: &S,
     journal: &mut Journal,
     caller: &mut C,
 ) -> Result<Rows, Unsettled>
-    ensures reads { (snapshot : Snapshot C) → Sees C.calls command.now journal.old.now snapshot
-        → Reads (in_turn (spec.adds_found (setting_of C.calls snapshot command.now) values.now)
-        found.now (progress journal.old.now.tables []) caller.old)
+    requires { S.can sub.now }
+    ensures reads { (objects : List Object) → objects ≡ journal.old.now.objects
+        → Reads (in_turn (spec.adds_found (setting_of C.calls (S.sub sub.now) objects command.now)
+        values.now) found.now (progress journal.old.now.tables []) caller.old)
         (reached result journal.new.now.tables) caller.new }
     ensures only { ChangesOnly command.now.change.now.table journal.old journal.new }
 {
     let mut rows = Rows::new(alloc);
     for row in found {
-        match insert_one(alloc, &*command, values, row, journal, rows, caller) {
+        match insert_one(alloc, &*command, values, row, sub, journal, rows, caller) {
             Ok(more) => rows = more,
             Err(why) => return Err(why),
         }
@@ -108,27 +119,32 @@ fn insert_found<'a, C: Caller>(
 }
 
 // The rows that a query gives.
-fn insert_query<'a, C: Caller>(
+fn insert_query<'a, C: Caller, S: Subqueries<C>>(
     alloc: Global,
     command: &Command<'a>,
     outer: &[Lent<'a>],
     query: usize,
     values: &'a [RExpr],
+    sub: &S,
     journal: &mut Journal,
     caller: &mut C,
 ) -> Result<Rows, Unsettled>
-    ensures reads { (snapshot : Snapshot C) → Sees C.calls command.now journal.old.now snapshot
-        → Reads (spec.inserts_found (setting_of C.calls snapshot command.now) (rows_of outer.now)
-        query values.now (progress journal.old.now.tables []) caller.old)
+    requires { S.can sub.now }
+    ensures reads { (objects : List Object) → objects ≡ journal.old.now.objects
+        → Reads (adds_from (rows_over C.calls command.now journal.old.now)
+        (setting_of C.calls (S.sub sub.now) objects command.now) (rows_of outer.now) query
+        values.now (progress journal.old.now.tables []) caller.old)
         (reached result journal.new.now.tables) caller.new }
     ensures only { ChangesOnly command.now.change.now.table journal.old journal.new }
 {
-    match find(alloc, &*command, &*journal, query, outer, caller) {
+    let queries = command.change.queries.as_slice();
+    match run_query(alloc, queries, &*journal, query, outer, caller) {
         Ok(found) => insert_found(
             alloc,
             &*command,
             &*values,
             found.as_slice(),
+            sub,
             journal,
             caller,
         ),
@@ -137,26 +153,29 @@ fn insert_query<'a, C: Caller>(
 }
 
 // UPDATE of the rows of these ids.
-fn update_each<'a, C: Caller>(
+fn update_each<'a, C: Caller, S: Subqueries<C>>(
     alloc: Global,
     command: &Command<'a>,
     columns: &[usize],
     values: &'a [RExpr],
     condition: &'a Option<Boxed<RExpr>>,
     ids: &[u64],
+    sub: &S,
     journal: &mut Journal,
     caller: &mut C,
 ) -> Result<Rows, Unsettled>
-    ensures reads { (snapshot : Snapshot C) → Sees C.calls command.now journal.old.now snapshot
-        → Reads (in_turn (spec.updates (setting_of C.calls snapshot command.now) columns.now
-        values.now condition.now) ids.now (progress journal.old.now.tables []) caller.old)
+    requires { S.can sub.now }
+    ensures reads { (objects : List Object) → objects ≡ journal.old.now.objects
+        → Reads (in_turn (spec.updates (setting_of C.calls (S.sub sub.now) objects command.now)
+        columns.now values.now condition.now) ids.now (progress journal.old.now.tables [])
+        caller.old)
         (reached result journal.new.now.tables) caller.new }
     ensures only { ChangesOnly command.now.change.now.table journal.old journal.new }
 {
     let mut rows = Rows::new(alloc);
     for id in ids {
         match update_row(
-            alloc, &*command, columns, values, condition, *id, journal, rows, caller,
+            alloc, &*command, columns, values, condition, *id, sub, journal, rows, caller,
         ) {
             Ok(more) => rows = more,
             Err(why) => return Err(why),
@@ -166,23 +185,25 @@ fn update_each<'a, C: Caller>(
 }
 
 // DELETE of the rows of these ids.
-fn delete_each<'a, C: Caller>(
+fn delete_each<'a, C: Caller, S: Subqueries<C>>(
     alloc: Global,
     command: &Command<'a>,
     condition: &'a Option<Boxed<RExpr>>,
     ids: &[u64],
+    sub: &S,
     journal: &mut Journal,
     caller: &mut C,
 ) -> Result<Rows, Unsettled>
-    ensures reads { (snapshot : Snapshot C) → Sees C.calls command.now journal.old.now snapshot
-        → Reads (in_turn (spec.deletes (setting_of C.calls snapshot command.now) condition.now)
-        ids.now (progress journal.old.now.tables []) caller.old)
+    requires { S.can sub.now }
+    ensures reads { (objects : List Object) → objects ≡ journal.old.now.objects
+        → Reads (in_turn (spec.deletes (setting_of C.calls (S.sub sub.now) objects command.now)
+        condition.now) ids.now (progress journal.old.now.tables []) caller.old)
         (reached result journal.new.now.tables) caller.new }
     ensures only { ChangesOnly command.now.change.now.table journal.old journal.new }
 {
     let mut rows = Rows::new(alloc);
     for id in ids {
-        match delete_row(alloc, &*command, condition, *id, journal, rows, caller) {
+        match delete_row(alloc, &*command, condition, *id, sub, journal, rows, caller) {
             Ok(more) => rows = more,
             Err(why) => return Err(why),
         }
@@ -191,28 +212,34 @@ fn delete_each<'a, C: Caller>(
 }
 
 // INSERT
-fn insert<'a, C: Caller>(
+fn insert<'a, C: Caller, S: Subqueries<C>>(
     alloc: Global,
     command: &Command<'a>,
     outer: &[Lent<'a>],
     source: &'a RRows,
+    sub: &S,
     journal: &mut Journal,
     caller: &mut C,
 ) -> Result<Rows, Unsettled>
-    ensures reads { (snapshot : Snapshot C) → Sees C.calls command.now journal.old.now snapshot
-        → Reads (spec.inserts (setting_of C.calls snapshot command.now) (rows_of outer.now)
-        source.now (progress journal.old.now.tables []) caller.old)
+    requires { S.can sub.now }
+    ensures reads { (objects : List Object) → objects ≡ journal.old.now.objects
+        → Reads (inserts_from (rows_over C.calls command.now journal.old.now)
+        (setting_of C.calls (S.sub sub.now) objects command.now) (rows_of outer.now) source.now
+        (progress journal.old.now.tables []) caller.old)
         (reached result journal.new.now.tables) caller.new }
     ensures only { ChangesOnly command.now.change.now.table journal.old journal.new }
 {
     match source {
-        RRows::Values(list) => insert_values(alloc, &*command, list.as_slice(), journal, caller),
+        RRows::Values(list) => {
+            insert_values(alloc, &*command, list.as_slice(), sub, journal, caller)
+        }
         RRows::Query { query, values } => insert_query(
             alloc,
             &*command,
             outer,
             *query,
             values.as_slice(),
+            sub,
             journal,
             caller,
         ),
@@ -220,18 +247,20 @@ fn insert<'a, C: Caller>(
 }
 
 // UPDATE
-fn update<'a, C: Caller>(
+fn update<'a, C: Caller, S: Subqueries<C>>(
     alloc: Global,
     command: &Command<'a>,
     columns: &List<usize>,
     values: &'a List<RExpr>,
     condition: &'a Option<Boxed<RExpr>>,
+    sub: &S,
     journal: &mut Journal,
     caller: &mut C,
 ) -> Result<Rows, Unsettled>
-    ensures reads { (snapshot : Snapshot C) → Sees C.calls command.now journal.old.now snapshot
-        → Reads (spec.updates_all (setting_of C.calls snapshot command.now) columns.now values.now
-        condition.now (progress journal.old.now.tables []) caller.old)
+    requires { S.can sub.now }
+    ensures reads { (objects : List Object) → objects ≡ journal.old.now.objects
+        → Reads (spec.updates_all (setting_of C.calls (S.sub sub.now) objects command.now) columns.now
+        values.now condition.now (progress journal.old.now.tables []) caller.old)
         (reached result journal.new.now.tables) caller.new }
     ensures only { ChangesOnly command.now.change.now.table journal.old journal.new }
 {
@@ -243,86 +272,118 @@ fn update<'a, C: Caller>(
         values.as_slice(),
         condition,
         ids.as_slice(),
+        sub,
         journal,
         caller,
     )
 }
 
 // DELETE
-fn delete<'a, C: Caller>(
+fn delete<'a, C: Caller, S: Subqueries<C>>(
     alloc: Global,
     command: &Command<'a>,
     condition: &'a Option<Boxed<RExpr>>,
+    sub: &S,
     journal: &mut Journal,
     caller: &mut C,
 ) -> Result<Rows, Unsettled>
-    ensures reads { (snapshot : Snapshot C) → Sees C.calls command.now journal.old.now snapshot
-        → Reads (spec.deletes_all (setting_of C.calls snapshot command.now) condition.now
-        (progress journal.old.now.tables []) caller.old)
+    requires { S.can sub.now }
+    ensures reads { (objects : List Object) → objects ≡ journal.old.now.objects
+        → Reads (spec.deletes_all (setting_of C.calls (S.sub sub.now) objects command.now)
+        condition.now (progress journal.old.now.tables []) caller.old)
         (reached result journal.new.now.tables) caller.new }
     ensures only { ChangesOnly command.now.change.now.table journal.old journal.new }
 {
     let ids = ids_of(alloc, &*journal, command.change.table)?;
-    delete_each(alloc, &*command, condition, ids.as_slice(), journal, caller)
+    delete_each(
+        alloc,
+        &*command,
+        condition,
+        ids.as_slice(),
+        sub,
+        journal,
+        caller,
+    )
 }
 
 // The command, once the rows that stand around are there.
-fn run<'a, C: Caller>(
+fn run<'a, C: Caller, S: Subqueries<C>>(
     alloc: Global,
     command: &Command<'a>,
     outer: &[Lent<'a>],
+    sub: &S,
     journal: &mut Journal,
     caller: &mut C,
 ) -> Result<Rows, Unsettled>
-    ensures reads { (snapshot : Snapshot C) → Sees C.calls command.now journal.old.now snapshot
-        → Reads (spec.does (setting_of C.calls snapshot command.now) (rows_of outer.now)
+    requires { S.can sub.now }
+    ensures reads { (objects : List Object) → objects ≡ journal.old.now.objects
+        → Reads (does_from (rows_over C.calls command.now journal.old.now)
+        (setting_of C.calls (S.sub sub.now) objects command.now) (rows_of outer.now)
         command.now.change.now.what (progress journal.old.now.tables []) caller.old)
         (reached result journal.new.now.tables) caller.new }
     ensures only { ChangesOnly command.now.change.now.table journal.old journal.new }
 {
     match &command.change.what {
-        RWhat::Insert(source) => insert(alloc, &*command, outer, source, journal, caller),
+        RWhat::Insert(source) => insert(alloc, &*command, outer, source, sub, journal, caller),
         RWhat::Update {
             columns,
             values,
             condition,
         } => update(
-            alloc, &*command, columns, values, condition, journal, caller,
+            alloc, &*command, columns, values, condition, sub, journal, caller,
         ),
-        RWhat::Delete { condition } => delete(alloc, &*command, condition, journal, caller),
+        RWhat::Delete { condition } => { delete(alloc, &*command, condition, sub, journal, caller) }
     }
 }
 
 // The same, with the rows of RETURNING as a list.
-fn answer<'a, C: Caller>(
+fn answer<'a, C: Caller, S: Subqueries<C>>(
+    alloc: Global,
+    command: &Command<'a>,
+    outer: &[Lent<'a>],
+    sub: &S,
+    journal: &mut Journal,
+    caller: &mut C,
+) -> Result<List<Cells>, Unsettled>
+    requires { S.can sub.now }
+    ensures reads { (objects : List Object) → objects ≡ journal.old.now.objects
+        → Reads (does_from (rows_over C.calls command.now journal.old.now)
+        (setting_of C.calls (S.sub sub.now) objects command.now) (rows_of outer.now)
+        command.now.change.now.what (progress journal.old.now.tables []) caller.old)
+        (reached result journal.new.now.tables) caller.new }
+    ensures only { ChangesOnly command.now.change.now.table journal.old journal.new }
+{
+    match run(alloc, &*command, outer, sub, journal, caller) {
+        Ok(rows) => Ok(List::from_vec(rows.into_vec())),
+        Err(why) => Err(why),
+    }
+}
+
+// The same with queries inside, which see the tables as they are when the command begins. Each
+// table that they read is copied and read once.
+fn answer_queries<'a, C: Caller>(
     alloc: Global,
     command: &Command<'a>,
     outer: &[Lent<'a>],
     journal: &mut Journal,
     caller: &mut C,
 ) -> Result<List<Cells>, Unsettled>
-    ensures reads { (snapshot : Snapshot C) → Sees C.calls command.now journal.old.now snapshot
-        → Reads (spec.does (setting_of C.calls snapshot command.now) (rows_of outer.now)
-        command.now.change.now.what (progress journal.old.now.tables []) caller.old)
+    ensures reads { (objects : List Object) → objects ≡ journal.old.now.objects
+        → Reads (spec.does (setting_of C.calls (rows_over C.calls command.now journal.old.now)
+        objects command.now) (rows_of outer.now) command.now.change.now.what
+        (progress journal.old.now.tables []) caller.old)
         (reached result journal.new.now.tables) caller.new }
     ensures only { ChangesOnly command.now.change.now.table journal.old journal.new }
 {
-    match run(alloc, &*command, outer, journal, caller) {
-        Ok(rows) => Ok(List::from_vec(rows.into_vec())),
-        Err(why) => Err(why),
-    }
-}
-
-// The rows of the table, if there are queries inside that may read them.
-fn start_of(alloc: Global, change: &RChange, journal: &Journal) -> Result<Vec<Cells>, AllocError>
-    ensures { IfOk result (λ start. change.now.queries ≢ []
-        → start.items ≡ tables_of journal.now.now.tables change.now.table) }
-{
-    if change.queries.is_empty() {
-        Ok(Vec::new(alloc))
-    } else {
-        copy_table(alloc, journal, change.table)
-    }
+    let queries = command.change.queries.as_slice();
+    let names = tables_read::<C>(alloc, queries)?;
+    let copies = copy_tables(alloc, &*journal, names.as_slice())?;
+    let store = Store::new(alloc, &copies, queries, command.around.len())?;
+    let inside = Queries {
+        list: queries,
+        tables: &store,
+    };
+    answer(alloc, &*command, outer, &inside, journal, caller)
 }
 
 /// Runs a command over the rows around it, and answers what RETURNING shows of each row that was
@@ -342,12 +403,14 @@ pub fn change<C: Caller>(
         (reached result journal.new.now.tables) caller.new }
     ensures only { ChangesOnly change.now.table journal.old journal.new }
 {
-    let start = start_of(alloc, change, &*journal)?;
     let around = stand(alloc, &*outer, &[])?;
     let command = Command {
         change: &*change,
-        start: start.as_slice(),
         around: around.as_slice(),
     };
-    answer(alloc, &command, &*outer, journal, caller)
+    if asks::<C>(&*change) {
+        answer_queries(alloc, &command, &*outer, journal, caller)
+    } else {
+        answer(alloc, &command, &*outer, &NoQueries, journal, caller)
+    }
 }

@@ -1,6 +1,7 @@
 //! What INSERT, UPDATE and DELETE do to a database.
 #![tactic(auto)]
 
+mod asking;
 mod at_start;
 mod command;
 mod commands;
@@ -8,7 +9,7 @@ mod evaluation;
 mod rows;
 mod writing;
 
-pub use at_start::AtStart;
+pub use at_start::{Copied, Copies};
 pub use command::Command;
 pub use commands::change;
 

@@ -27,6 +27,12 @@ enum Part {
     Above(usize, usize, i32),
     /// (SELECT max(b) FROM t) + 1
     Next,
+    /// (SELECT max(u.b) FROM t u WHERE u.a + 1 = t.a)
+    Before,
+    /// EXISTS (SELECT 1 FROM t u WHERE u.a + 1 = t.a)
+    Follows,
+    /// u.a + 1 = t.a, in the two queries above
+    IsNext,
 }
 
 /// A command over the table t, of the columns a and b.
@@ -62,7 +68,7 @@ const ROWS: [[Part; 2]; 3] = [
     [Part::Number(3), Part::Null],
 ];
 
-const CASES: [Case; 14] = [
+const CASES: [Case; 19] = [
     Case {
         name: "INSERT INTO t VALUES (4, 40), (5, NULL) RETURNING b, a",
         what: What::Values(&[
@@ -151,6 +157,36 @@ const CASES: [Case; 14] = [
         outcome: "1: 2,20 | 1,10;3,-",
     },
     Case {
+        name: "UPDATE t SET b = (SELECT max(u.b) FROM t u WHERE u.a + 1 = t.a) RETURNING a, b",
+        what: What::Set(1, Part::Before, None),
+        returning: &[Part::At(2, 0), Part::At(2, 1)],
+        outcome: "3: 1,-;2,10;3,20 | 1,-;2,10;3,20",
+    },
+    Case {
+        name: "UPDATE t SET b = 9 WHERE EXISTS (SELECT 1 FROM t u WHERE u.a + 1 = t.a)",
+        what: What::Set(1, Part::Number(9), Some(Part::Follows)),
+        returning: &[],
+        outcome: "2: ; | 1,10;2,9;3,9",
+    },
+    Case {
+        name: "DELETE FROM t WHERE EXISTS (SELECT 1 FROM t u WHERE u.a + 1 = t.a)",
+        what: What::Delete(Some(Part::Follows)),
+        returning: &[],
+        outcome: "2: ; | 1,10",
+    },
+    Case {
+        name: "DELETE FROM t WHERE a > 1 RETURNING a, (SELECT max(b) FROM t) + 1",
+        what: What::Delete(Some(Part::Above(2, 0, 1))),
+        returning: &[Part::At(2, 0), Part::Next],
+        outcome: "2: 2,21;3,21 | 1,10",
+    },
+    Case {
+        name: "UPDATE t SET b = 50 RETURNING (SELECT max(u.b) FROM t u WHERE u.a + 1 = t.a)",
+        what: What::Set(1, Part::Number(50), None),
+        returning: &[Part::Before],
+        outcome: "3: -;10;20 | 1,50;2,50;3,50",
+    },
+    Case {
         name: "DELETE FROM t",
         what: What::Delete(None),
         returning: &[],
@@ -174,23 +210,45 @@ fn chain(alloc: Global, first: RExpr, n: i32) -> Result<RExpr, AllocError> {
     )?))
 }
 
+fn compared(
+    alloc: Global,
+    comparison: Comparison,
+    first: RExpr,
+    second: RExpr,
+) -> Result<RExpr, AllocError> {
+    Ok(RExpr::Binary {
+        operator: Operator::Compare(comparison),
+        operands: Boxed::new(alloc, RPair { first, second })?,
+    })
+}
+
 fn expression(alloc: Global, part: Part) -> Result<RExpr, AllocError> {
     match part {
         Part::Null => Ok(RExpr::Constant(Value::Null)),
         Part::Number(n) => Ok(RExpr::Constant(Value::Int(n))),
         Part::At(row, column) => Ok(RExpr::Place { row, column }),
         Part::Plus(row, column, n) => chain(alloc, RExpr::Place { row, column }, n),
-        Part::Above(row, column, n) => Ok(RExpr::Binary {
-            operator: Operator::Compare(Comparison::Greater),
-            operands: Boxed::new(
+        Part::Above(row, column, n) => {
+            let place = RExpr::Place { row, column };
+            compared(
                 alloc,
-                RPair {
-                    first: RExpr::Place { row, column },
-                    second: RExpr::Constant(Value::Int(n)),
-                },
-            )?,
-        }),
+                Comparison::Greater,
+                place,
+                RExpr::Constant(Value::Int(n)),
+            )
+        }
         Part::Next => chain(alloc, RExpr::Scalar(0), 1),
+        Part::Before => Ok(RExpr::Scalar(1)),
+        Part::Follows => Ok(RExpr::Exists(2)),
+        Part::IsNext => {
+            let next = chain(alloc, RExpr::Place { row: 4, column: 0 }, 1)?;
+            compared(
+                alloc,
+                Comparison::Equal,
+                next,
+                RExpr::Place { row: 2, column: 0 },
+            )
+        }
     }
 }
 
@@ -238,10 +296,12 @@ fn largest(alloc: Global, row: usize) -> Result<RGroups, AllocError> {
 fn query(
     alloc: Global,
     table: Name,
+    condition: Option<Part>,
     groups: Option<RGroups>,
     items: &[Part],
 ) -> Result<RQuery, AllocError> {
     let groups = Held::new(groups);
+    let condition = boxed(alloc, condition)?;
     let mut from = List::new(alloc);
     from.push(RJoin {
         source: RSource::Table(table),
@@ -252,7 +312,7 @@ fn query(
     let heads = heads(alloc, items.len())?;
     Ok(RQuery {
         from,
-        condition: None,
+        condition,
         groups: groups.into_inner(),
         items: list,
         heads,
@@ -294,22 +354,26 @@ fn what_of(alloc: Global, what: What) -> Result<RWhat, AllocError> {
     }
 }
 
-// The queries inside: only the commands that name one have it.
+// The queries inside, also where a command reads none of them.
 fn queries_of(alloc: Global, table: Name, what: What) -> Result<List<RQuery>, AllocError> {
     let mut list = List::new(alloc);
     match what {
         What::Query => {
-            list.push(query(alloc, table, None, &[Part::Plus(2, 0, 10), Part::At(2, 1)])?)?;
+            let items = [Part::Plus(2, 0, 10), Part::At(2, 1)];
+            list.push(query(alloc, table, None, None, &items)?)?;
         }
         What::Values(_) => {
             let groups = largest(alloc, 3)?;
-            list.push(query(alloc, table, Some(groups), &[Part::At(2, 0)])?)?;
+            list.push(query(alloc, table, None, Some(groups), &[Part::At(2, 0)])?)?;
         }
-        What::Set(_, Part::Next, _) => {
+        What::Set(_, _, _) | What::Delete(_) => {
             let groups = largest(alloc, 4)?;
-            list.push(query(alloc, table, Some(groups), &[Part::At(3, 0)])?)?;
+            list.push(query(alloc, table, None, Some(groups), &[Part::At(3, 0)])?)?;
+            let groups = largest(alloc, 4)?;
+            let is_next = Some(Part::IsNext);
+            list.push(query(alloc, table, is_next, Some(groups), &[Part::At(3, 0)])?)?;
+            list.push(query(alloc, table, is_next, None, &[Part::Number(1)])?)?;
         }
-        What::Set(_, _, _) | What::Delete(_) => {}
     }
     Ok(list)
 }

@@ -1,9 +1,10 @@
 //! One row is written: its rules, the write, RETURNING.
 
 ghost use Rattle.std.specs.Prelude.{◌≡◌, [], ◌∷◌, ◌++◌, IfOk, List};
+ghost use Rattle.pl_catalog.specs.declared.object.Object.{Object};
 ghost use Rattle.pl_change.specs.Changes as spec;
 ghost use Rattle.pl_change.specs.Changes.{progress};
-ghost use Rattle.pl_change.specs.Running.{reached, setting_of, HasRow, Sees, Snapshot};
+ghost use Rattle.pl_change.specs.Running.{reached, setting_of, HasRow};
 ghost use Rattle.pl_journal.specs.Journal.{ChangesOnly, Leads};
 ghost use Rattle.pl_journal.specs.Writing.{written};
 ghost use Rattle.pl_resolved.specs.declared.expression.RExpr as tree;
@@ -18,7 +19,7 @@ use pl_base::{Cells, List, Value};
 use pl_journal::Journal;
 use pl_query::Rows;
 use pl_resolved::RExpr;
-use pl_value::{Caller, Unsettled};
+use pl_value::{Caller, Subqueries, Unsettled};
 use std::alloc::{AllocError, Global};
 
 // Adds the row under a new id, or puts it in the place of the row of this id.
@@ -50,20 +51,20 @@ fn add_shown<C>(rows: Rows, shown: Cells) -> Result<Rows, Unsettled>
 }
 
 // RETURNING of a row that was written.
-fn tell<C: Caller>(
+fn tell<C: Caller, S: Subqueries<C>>(
     alloc: Global,
     command: &Command<'_>,
     row: &[Value],
-    journal: &Journal,
+    sub: &S,
     rows: Rows,
     caller: &mut C,
 ) -> Result<Rows, Unsettled>
-    ensures { (snapshot : Snapshot C) → Sees C.calls command.now journal.now.now snapshot
-        → Reads (spec.told (setting_of C.calls snapshot command.now) row.now
-        (progress journal.now.now.tables rows) caller.old)
-        (reached result journal.now.now.tables) caller.new }
+    requires { S.can sub.now }
+    ensures { (objects : List Object) (tables : List Named) → Reads (spec.told (setting_of C.calls
+        (S.sub sub.now) objects command.now) row.now (progress tables rows) caller.old)
+        (reached result tables) caller.new }
 {
-    match show(alloc, &*command, row, journal, caller) {
+    match show(alloc, &*command, row, sub, caller) {
         Ok(shown) => add_shown::<C>(rows, shown),
         Err(why) => Err(why),
     }
@@ -82,25 +83,27 @@ fn copy_for(alloc: Global, returning: &[RExpr], row: &Cells) -> Result<Cells, Al
 
 /// Writes a row, under a new id or in the place of the row of this id, and adds what RETURNING
 /// shows of it.
-pub(crate) fn write_row<C: Caller>(
+pub(crate) fn write_row<C: Caller, S: Subqueries<C>>(
     alloc: Global,
     command: &Command<'_>,
     id: Option<u64>,
     row: Cells,
+    sub: &S,
     journal: &mut Journal,
     rows: Rows,
     caller: &mut C,
 ) -> Result<Rows, Unsettled>
-    requires { HasRow command.now.change.now.table id journal.old.now.tables }
-    ensures reads { (snapshot : Snapshot C) → Sees C.calls command.now journal.old.now snapshot
-        → Reads (spec.writes (setting_of C.calls snapshot command.now) id row
+    requires can { S.can sub.now }
+    requires there { HasRow command.now.change.now.table id journal.old.now.tables }
+    ensures reads { (objects : List Object) → objects ≡ journal.old.now.objects
+        → Reads (spec.writes (setting_of C.calls (S.sub sub.now) objects command.now) id row
         (progress journal.old.now.tables rows) caller.old)
         (reached result journal.new.now.tables) caller.new }
     ensures only { ChangesOnly command.now.change.now.table journal.old journal.new }
 {
     let copied = copy_for(alloc, command.change.returning.as_slice(), &row)?;
     match write(&*command, id, row, journal) {
-        Ok(()) => tell(alloc, &*command, copied.as_slice(), &*journal, rows, caller),
+        Ok(()) => tell(alloc, &*command, copied.as_slice(), &*sub, rows, caller),
         Err(why) => Err(why),
     }
 }

@@ -7,10 +7,10 @@ use Rattle.pl_value.specs.Frames.{Frame, Row, rows_of}
 use Rattle.pl_change.proofs.commands.insert_one.Goals as goal
 
 pub returns-clause-reads : goal.returns-clause-reads
-returns-clause-reads g c snapshot sees =
-    subst (λ (frame : Frame). Reads {A = Progress} (adds (setting_of g.C.Caller.calls snapshot c.args.command.now) c.args.values.now frame (progress c.args.journal.now.now.tables c.args.rows) c.args.caller.now) (reached c.add_row.result c.add_row.new.journal.now.tables) c.add_row.new.caller)
+returns-clause-reads g c objects is =
+    subst (λ (frame : Frame). Reads {A = Progress} (adds (setting_of g.C.Caller.calls (g.S.Subqueries.sub c.args.sub.now) objects c.args.command.now) c.args.values.now frame (progress c.args.journal.now.now.tables c.args.rows) c.args.caller.now) (reached c.add_row.result c.add_row.new.journal.now.tables) c.add_row.new.caller)
     (ap rows_of c.as_slice-2.ensures.value ∙ (c.in_ok-frame.ensures ∙ ap (λ (row : Row). rows_of c.args.command.now.around.now ++ row ∷ []) c.as_slice.ensures))
-    (c.add_row.ensures.reads snapshot sees)
+    (c.add_row.ensures.reads objects is)
 
 pub returns-in_err-frame-clause-only : goal.returns-in_err-frame-clause-only
 returns-in_err-frame-clause-only g c = only_same c.args.command.now.change.now.table c.args.journal.now

@@ -1,5 +1,4 @@
 use Rattle.std.proofs.Common.{◌∙◌, ap, sym, List, [], Err, arith}
-use Rattle.pl_change.proofs.Snapshots.{still_sees}
 use Rattle.pl_change.proofs.Turns.{front, same_reads, turn_ends, turn_goes, turn_stops}
 use Rattle.pl_change.specs.Changes.{Progress, adds, adds_values, progress}
 use Rattle.pl_change.specs.Running.{setting_of}
@@ -12,7 +11,7 @@ use Rattle.pl_change.proofs.commands.insert_values.Goals as goal
 pub loop-row-init : goal.loop-row-init
 loop-row-init g c =
     record {
-      reads = λ snapshot sees. ap (λ (rows : List Row). in_turn (adds_values (setting_of g.C.Caller.calls snapshot c.args.command.now)) c.args.list.now (progress c.args.journal.now.now.tables rows) c.args.caller.now) (sym c.new-rows.ensures);
+      reads = λ objects is. ap (λ (rows : List Row). in_turn (adds_values (setting_of g.C.Caller.calls (g.S.Subqueries.sub c.args.sub.now) objects c.args.command.now)) c.args.list.now (progress c.args.journal.now.now.tables rows) c.args.caller.now) (sym c.new-rows.ensures);
       only = only_same c.args.command.now.change.now.table c.args.journal.now;
     }
 
@@ -21,13 +20,13 @@ loop-row-preserved g c =
     let name = c.args.command.now.change.now.table in
     let was = c.loop-row.invariant in
     record {
-      reads = λ snapshot sees.
-          let s = setting_of g.C.Caller.calls snapshot c.args.command.now in
+      reads = λ objects is.
+          let s = setting_of g.C.Caller.calls (g.S.Subqueries.sub c.args.sub.now) objects c.args.command.now in
           turn_goes (adds_values s) c.args.list.now c.loop-row.row-index c.row-item.result (front c.args.list.now c.loop-row.row-index c.row-item.result c.loop-row-test.true c.row-item.is)
           (in_turn (adds_values s) c.args.list.now (progress c.args.journal.now.now.tables []) c.args.caller.now)
-          (progress c.loop-row.journal.now.tables c.loop-row.rows) (progress c.add_row.new.journal.now.tables c.in-Ok.more) c.loop-row.caller c.add_row.new.caller (was.reads snapshot sees)
+          (progress c.loop-row.journal.now.tables c.loop-row.rows) (progress c.add_row.new.journal.now.tables c.in-Ok.more) c.loop-row.caller c.add_row.new.caller (was.reads objects is)
           (ap (λ (list : List RExpr). adds s list s.around (progress c.loop-row.journal.now.tables c.loop-row.rows) c.loop-row.caller) (sym c.as_slice.ensures)
-          ∙ c.in-Ok.ensures.reads snapshot (still_sees g.C.Caller.calls c.args.command.now c.args.journal.now c.loop-row.journal snapshot was.only sees));
+          ∙ c.in-Ok.ensures.reads objects (is ∙ sym was.only.objects));
       only = only_then name c.args.journal.now c.loop-row.journal c.add_row.new.journal was.only c.in-Ok.ensures.only;
     }
 
@@ -36,20 +35,20 @@ returns-in-Err g c =
     let name = c.args.command.now.change.now.table in
     let was = c.loop-row.invariant in
     record {
-      reads = λ snapshot sees.
-          let s = setting_of g.C.Caller.calls snapshot c.args.command.now in
+      reads = λ objects is.
+          let s = setting_of g.C.Caller.calls (g.S.Subqueries.sub c.args.sub.now) objects c.args.command.now in
           let p = progress c.loop-row.journal.now.tables c.loop-row.rows in
           turn_stops (adds_values s) c.args.list.now c.loop-row.row-index c.row-item.result (front c.args.list.now c.loop-row.row-index c.row-item.result c.loop-row-test.true c.row-item.is)
           (in_turn (adds_values s) c.args.list.now (progress c.args.journal.now.now.tables []) c.args.caller.now)
-          p c.loop-row.caller c.add_row.new.caller c.in-Err.why (was.reads snapshot sees)
+          p c.loop-row.caller c.add_row.new.caller c.in-Err.why (was.reads objects is)
           (same_reads {A = Progress} (adds_values s c.row-item.result p c.loop-row.caller) (adds s c.as_slice.result.now s.around p c.loop-row.caller) (Err c.in-Err.why) c.add_row.new.caller
           (ap (λ (list : List RExpr). adds s list s.around p c.loop-row.caller) (sym c.as_slice.ensures))
-          (c.in-Err.ensures.reads snapshot (still_sees g.C.Caller.calls c.args.command.now c.args.journal.now c.loop-row.journal snapshot was.only sees)));
+          (c.in-Err.ensures.reads objects (is ∙ sym was.only.objects)));
       only = only_then name c.args.journal.now c.loop-row.journal c.add_row.new.journal was.only c.in-Err.ensures.only;
     }
 
 pub returns-clause-reads : goal.returns-clause-reads
-returns-clause-reads g c snapshot sees =
-    let s = setting_of g.C.Caller.calls snapshot c.args.command.now in
+returns-clause-reads g c objects is =
+    let s = setting_of g.C.Caller.calls (g.S.Subqueries.sub c.args.sub.now) objects c.args.command.now in
     turn_ends (adds_values s) c.args.list.now c.loop-row.row-index (omega (arith, c.loop-row-test.false))
-    (in_turn (adds_values s) c.args.list.now (progress c.args.journal.now.now.tables []) c.args.caller.now) (progress c.loop-row.journal.now.tables c.loop-row.rows) c.loop-row.caller (c.loop-row.invariant.reads snapshot sees)
+    (in_turn (adds_values s) c.args.list.now (progress c.args.journal.now.now.tables []) c.args.caller.now) (progress c.loop-row.journal.now.tables c.loop-row.rows) c.loop-row.caller (c.loop-row.invariant.reads objects is)

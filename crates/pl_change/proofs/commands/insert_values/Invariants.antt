@@ -1,6 +1,7 @@
-use Rattle.std.proofs.Common.{◌≡◌, [], drop}
+use Rattle.std.proofs.Common.{◌≡◌, [], drop, List}
+use Rattle.pl_catalog.specs.declared.object.Object.{Object}
 use Rattle.pl_change.specs.Changes.{adds_values, progress}
-use Rattle.pl_change.specs.Running.{setting_of, Sees, Snapshot}
+use Rattle.pl_change.specs.Running.{setting_of}
 use Rattle.pl_journal.specs.Journal.{ChangesOnly}
 use Rattle.pl_query.specs.Rows.{in_turn}
 use Rattle.pl_change.proofs.commands.insert_values.Given as goal
@@ -8,8 +9,8 @@ use Rattle.pl_change.proofs.commands.insert_values.Given as goal
 abbrev pub invariant-loop-row : goal.invariant-loop-row
 invariant-loop-row g l =
     record {
-      reads : (snapshot : Snapshot g.row.C.Denot) → Sees g.C.Caller.calls l.command l.fn.journal.now snapshot
-          → in_turn (adds_values (setting_of g.C.Caller.calls snapshot l.command)) l.list (progress l.fn.journal.now.tables []) l.fn.caller
-          ≡ in_turn (adds_values (setting_of g.C.Caller.calls snapshot l.command)) (drop l.row-index l.list) (progress l.journal.now.tables l.rows) l.caller;
+      reads : (objects : List Object) → objects ≡ l.fn.journal.now.objects
+          → in_turn (adds_values (setting_of g.C.Caller.calls (g.S.Subqueries.sub l.sub) objects l.command)) l.list (progress l.fn.journal.now.tables []) l.fn.caller
+          ≡ in_turn (adds_values (setting_of g.C.Caller.calls (g.S.Subqueries.sub l.sub) objects l.command)) (drop l.row-index l.list) (progress l.journal.now.tables l.rows) l.caller;
       only : ChangesOnly l.command.change.now.table l.fn.journal l.journal;
     }

@@ -8,14 +8,14 @@ use Rattle.pl_value.specs.Answers.{Reads}
 use Rattle.pl_change.proofs.commands.update.Goals as goal
 
 pub returns-clause-reads : goal.returns-clause-reads
-returns-clause-reads g c snapshot sees =
-    let s = setting_of g.C.Caller.calls snapshot c.args.command.now in
+returns-clause-reads g c objects is =
+    let s = setting_of g.C.Caller.calls (g.S.Subqueries.sub c.args.sub.now) objects c.args.command.now in
     let p = progress c.args.journal.now.now.tables [] in
     let r = reached c.update_each.result c.update_each.new.journal.now.tables in
     subst (λ (columns : List ℕ). Reads {A = Progress} (in_turn (updates s columns c.args.values.now c.args.condition.now) (ids c.args.command.now.change.now.table c.args.journal.now.now.tables) p c.args.caller.now) r c.update_each.new.caller) c.as_slice.ensures
     (subst (λ (values : List RExpr). Reads {A = Progress} (in_turn (updates s c.as_slice.result.now values c.args.condition.now) (ids c.args.command.now.change.now.table c.args.journal.now.now.tables) p c.args.caller.now) r c.update_each.new.caller) c.as_slice-2.ensures
     (subst (λ (list : List ℕ). Reads {A = Progress} (in_turn (updates s c.as_slice.result.now c.as_slice-2.result.now c.args.condition.now) list p c.args.caller.now) r c.update_each.new.caller) (c.as_slice-3.ensures.value ∙ c.in_ok-ids.ensures)
-    (c.update_each.ensures.reads snapshot sees)))
+    (c.update_each.ensures.reads objects is)))
 
 pub returns-in_err-ids-clause-only : goal.returns-in_err-ids-clause-only
 returns-in_err-ids-clause-only g c = only_same c.args.command.now.change.now.table c.args.journal.now

@@ -9,12 +9,12 @@ use Rattle.pl_value.specs.Steps.{goes, stops}
 use Rattle.pl_change.proofs.evaluation.read_if.Goals as goal
 
 pub returns-in-Ok : goal.returns-in-Ok
-returns-in-Ok g c snapshot sees =
-    goes {A = Bool} {B = Option Row} _ (passes (option_map (value g.C.Caller.calls snapshot.inner) c.args.condition.now) (rows_of c.args.frame.now) c.args.caller.now)
-    (λ b w. values_if (setting_of g.C.Caller.calls snapshot c.args.command.now) b c.args.parts.now (rows_of c.args.frame.now) w) c.in-Ok.passes c.passes_where.new.caller c.values_if.result c.values_if.new.caller refl
-    (c.in-Ok.ensures snapshot sees) (c.values_if.ensures snapshot sees)
+returns-in-Ok g c objects command =
+    goes {A = Bool} {B = Option Row} _ (passes (option_map (value g.C.Caller.calls (g.S.Subqueries.sub c.args.sub.now)) c.args.condition.now) (rows_of c.args.frame.now) c.args.caller.now)
+    (λ b w. values_if (setting_of g.C.Caller.calls (g.S.Subqueries.sub c.args.sub.now) objects command) b c.args.parts.now (rows_of c.args.frame.now) w) c.in-Ok.passed c.passes_where.new.caller c.values_if.result c.values_if.new.caller refl
+    c.in-Ok.ensures (c.values_if.ensures objects command)
 
 pub returns-in-Err : goal.returns-in-Err
-returns-in-Err g c snapshot sees =
-    stops {A = Bool} {B = Option Row} _ (passes (option_map (value g.C.Caller.calls snapshot.inner) c.args.condition.now) (rows_of c.args.frame.now) c.args.caller.now)
-    (λ b w. values_if (setting_of g.C.Caller.calls snapshot c.args.command.now) b c.args.parts.now (rows_of c.args.frame.now) w) c.in-Err.why c.passes_where.new.caller refl (c.in-Err.ensures snapshot sees)
+returns-in-Err g c objects command =
+    stops {A = Bool} {B = Option Row} _ (passes (option_map (value g.C.Caller.calls (g.S.Subqueries.sub c.args.sub.now)) c.args.condition.now) (rows_of c.args.frame.now) c.args.caller.now)
+    (λ b w. values_if (setting_of g.C.Caller.calls (g.S.Subqueries.sub c.args.sub.now) objects command) b c.args.parts.now (rows_of c.args.frame.now) w) c.in-Err.why c.passes_where.new.caller refl c.in-Err.ensures

@@ -6,7 +6,7 @@ use Rattle.pl_value.specs.Meaning.{value, values}
 use Rattle.pl_change.proofs.evaluation.show.Goals as goal
 
 pub returns : goal.returns
-returns g c snapshot sees =
-    subst (λ (list : List RExpr). Reads {A = Row} (values (map (value g.C.Caller.calls snapshot.inner) list) [] (rows_of c.args.command.now.around.now ++ c.args.row.now ∷ []) c.args.caller.now) c.read_all.result c.read_all.new.caller) c.as_slice.ensures
-    (subst (λ (frame : Frame). Reads {A = Row} (values (map (value g.C.Caller.calls snapshot.inner) c.as_slice.result.now) [] frame c.args.caller.now) c.read_all.result c.read_all.new.caller)
-    (ap rows_of c.as_slice-2.ensures.value ∙ c.in_ok-frame.ensures) (c.read_all.ensures snapshot sees))
+returns g c objects =
+    subst (λ (list : List RExpr). Reads {A = Row} (values (map (value g.C.Caller.calls (g.S.Subqueries.sub c.args.sub.now)) list) [] (rows_of c.args.command.now.around.now ++ c.args.row.now ∷ []) c.args.caller.now) c.values.result c.values.new.caller) c.as_slice.ensures
+    (subst (λ (frame : Frame). Reads {A = Row} (values (map (value g.C.Caller.calls (g.S.Subqueries.sub c.args.sub.now)) c.as_slice.result.now) [] frame c.args.caller.now) c.values.result c.values.new.caller)
+    (ap rows_of c.as_slice-2.ensures.value ∙ c.in_ok-frame.ensures) c.values.ensures)

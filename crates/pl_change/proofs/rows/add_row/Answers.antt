@@ -8,15 +8,15 @@ use Rattle.pl_value.specs.Steps.{goes, stops}
 use Rattle.pl_change.proofs.rows.add_row.Goals as goal
 
 pub returns-in-Ok-clause-reads : goal.returns-in-Ok-clause-reads
-returns-in-Ok-clause-reads g c snapshot sees =
-    goes {A = Row} {B = Progress} _ (values (map (value g.C.Caller.calls snapshot.inner) c.args.parts.now) [] (rows_of c.args.frame.now) c.args.caller.now)
-    (λ row w. writes (setting_of g.C.Caller.calls snapshot c.args.command.now) None row (progress c.args.journal.now.now.tables c.args.rows) w) c.in-Ok.row c.read_all.new.caller
-    (reached c.write_row.result c.write_row.new.journal.now.tables) c.write_row.new.caller refl (c.in-Ok.ensures snapshot sees) (c.write_row.ensures.reads snapshot sees)
+returns-in-Ok-clause-reads g c objects is =
+    goes {A = Row} {B = Progress} _ (values (map (value g.C.Caller.calls (g.S.Subqueries.sub c.args.sub.now)) c.args.parts.now) [] (rows_of c.args.frame.now) c.args.caller.now)
+    (λ row w. writes (setting_of g.C.Caller.calls (g.S.Subqueries.sub c.args.sub.now) objects c.args.command.now) None row (progress c.args.journal.now.now.tables c.args.rows) w) c.in-Ok.row c.values.new.caller
+    (reached c.write_row.result c.write_row.new.journal.now.tables) c.write_row.new.caller refl c.in-Ok.ensures (c.write_row.ensures.reads objects is)
 
 pub returns-in-Err-clause-reads : goal.returns-in-Err-clause-reads
-returns-in-Err-clause-reads g c snapshot sees =
-    stops {A = Row} {B = Progress} _ (values (map (value g.C.Caller.calls snapshot.inner) c.args.parts.now) [] (rows_of c.args.frame.now) c.args.caller.now)
-    (λ row w. writes (setting_of g.C.Caller.calls snapshot c.args.command.now) None row (progress c.args.journal.now.now.tables c.args.rows) w) c.in-Err.why c.read_all.new.caller refl (c.in-Err.ensures snapshot sees)
+returns-in-Err-clause-reads g c objects is =
+    stops {A = Row} {B = Progress} _ (values (map (value g.C.Caller.calls (g.S.Subqueries.sub c.args.sub.now)) c.args.parts.now) [] (rows_of c.args.frame.now) c.args.caller.now)
+    (λ row w. writes (setting_of g.C.Caller.calls (g.S.Subqueries.sub c.args.sub.now) objects c.args.command.now) None row (progress c.args.journal.now.now.tables c.args.rows) w) c.in-Err.why c.values.new.caller refl c.in-Err.ensures
 
 pub returns-in-Err-clause-only : goal.returns-in-Err-clause-only
 returns-in-Err-clause-only g c = only_same c.args.command.now.change.now.table c.args.journal.now

@@ -7,17 +7,17 @@ use Rattle.pl_value.specs.Frames.{Row}
 use Rattle.pl_change.proofs.rows.set_row.Goals as goal
 
 pub returns-in-Some-clause-reads : goal.returns-in-Some-clause-reads
-returns-in-Some-clause-reads g c snapshot sees =
-    let s = setting_of g.C.Caller.calls snapshot c.args.command.now in
+returns-in-Some-clause-reads g c objects =
+    let s = setting_of g.C.Caller.calls (g.S.Subqueries.sub c.args.sub.now) objects c.args.command.now in
     let reads = set_if s c.args.columns.now c.args.values.now c.args.condition.now in
     same_reads {A = Option Row} (at_row s reads c.args.id c.args.journal.now.now.tables c.args.caller.now) (reads c.as_slice.result.now c.args.caller.now) c.set_if.result c.set_if.new.caller
     (row_there s reads c.args.id c.args.journal.now.now.tables c.as_slice.result.now c.args.caller.now (sym c.in-Some.ensures ∙ ap (λ (row : Row). let o : Option Row = Some row in o) (sym c.as_slice.ensures)))
-    (c.set_if.ensures snapshot sees)
+    (c.set_if.ensures objects)
 
 pub returns-in-Some-clause-there : goal.returns-in-Some-clause-there
 returns-in-Some-clause-there g c = on_ok c.set_if.result (subst (λ (o : Option Row). IsSome o) c.in-Some.ensures refl)
 
 pub returns-in-None-clause-reads : goal.returns-in-None-clause-reads
-returns-in-None-clause-reads g c snapshot sees =
-    let s = setting_of g.C.Caller.calls snapshot c.args.command.now in
+returns-in-None-clause-reads g c objects =
+    let s = setting_of g.C.Caller.calls (g.S.Subqueries.sub c.args.sub.now) objects c.args.command.now in
     row_gone s (set_if s c.args.columns.now c.args.values.now c.args.condition.now) c.args.id c.args.journal.now.now.tables c.args.caller.now (sym c.in-None.ensures)

@@ -12,6 +12,6 @@ pub returns-in_err-push-clause-only : goal.returns-in_err-push-clause-only
 returns-in_err-push-clause-only g c = only_same c.args.command.now.change.now.table c.args.journal.now
 
 pub returns-clause-reads : goal.returns-clause-reads
-returns-clause-reads g c calls snapshot w =
+returns-clause-reads g c calls inner objects w =
     ap (λ (made : List Row). got (progress (on_table c.args.command.now.change.now.table (removed c.args.id) c.args.journal.now.now.tables) made) w) (sym c.in_ok-push.ensures)
     ∙ ap (λ (d : Database). got (progress d.tables c.push.new.self) w) (sym c.in_ok-remove.ensures.ok)
