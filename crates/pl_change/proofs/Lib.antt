@@ -1,4 +1,7 @@
 mod Alike
 mod Assigned
+mod Asked
 mod Copying
+mod LeftOut
+mod Noted
 mod Turns

@@ -13,7 +13,8 @@ ghost use Rattle.pl_value.specs.Frames.{rows_of};
 
 use crate::Command;
 use crate::asking::asks;
-use crate::at_start::{copy_tables, ids_of};
+use crate::at_start::copy_tables;
+use crate::by_key::ids_for;
 use crate::evaluation::stand;
 use crate::rows::{add_row, delete_row, update_row};
 use pl_base::{Boxed, Cells, List};
@@ -264,7 +265,8 @@ fn update<'a, C: Caller, S: Subqueries<C>>(
         (reached result journal.new.now.tables) caller.new }
     ensures only { ChangesOnly command.now.change.now.table journal.old journal.new }
 {
-    let ids = ids_of(alloc, &*journal, command.change.table)?;
+    journal.is_sound();
+    let ids = ids_for(alloc, &*command, condition, &*journal)?;
     update_each(
         alloc,
         &*command,
@@ -294,7 +296,8 @@ fn delete<'a, C: Caller, S: Subqueries<C>>(
         (reached result journal.new.now.tables) caller.new }
     ensures only { ChangesOnly command.now.change.now.table journal.old journal.new }
 {
-    let ids = ids_of(alloc, &*journal, command.change.table)?;
+    journal.is_sound();
+    let ids = ids_for(alloc, &*command, condition, &*journal)?;
     delete_each(
         alloc,
         &*command,

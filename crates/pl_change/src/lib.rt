@@ -3,6 +3,7 @@
 
 mod asking;
 mod at_start;
+mod by_key;
 mod command;
 mod commands;
 mod evaluation;

@@ -33,6 +33,10 @@ enum Part {
     Follows,
     /// u.a + 1 = t.a, in the two queries above
     IsNext,
+    /// Whether a is this number.
+    Is(i32),
+    /// Whether a is the first number, and b greater than the second.
+    IsAndAbove(i32, i32),
 }
 
 /// A command over the table t, of the columns a and b.
@@ -68,7 +72,7 @@ const ROWS: [[Part; 2]; 3] = [
     [Part::Number(3), Part::Null],
 ];
 
-const CASES: [Case; 19] = [
+const CASES: [Case; 25] = [
     Case {
         name: "INSERT INTO t VALUES (4, 40), (5, NULL) RETURNING b, a",
         what: What::Values(&[
@@ -187,6 +191,42 @@ const CASES: [Case; 19] = [
         outcome: "3: -;10;20 | 1,50;2,50;3,50",
     },
     Case {
+        name: "DELETE FROM t WHERE 2 = a RETURNING a, b",
+        what: What::Delete(Some(Part::Is(2))),
+        returning: &[Part::At(2, 0), Part::At(2, 1)],
+        outcome: "1: 2,20 | 1,10;3,-",
+    },
+    Case {
+        name: "DELETE FROM t WHERE 7 = a",
+        what: What::Delete(Some(Part::Is(7))),
+        returning: &[],
+        outcome: "0:  | 1,10;2,20;3,-",
+    },
+    Case {
+        name: "DELETE FROM t WHERE 1 = a AND b > 15",
+        what: What::Delete(Some(Part::IsAndAbove(1, 15))),
+        returning: &[],
+        outcome: "0:  | 1,10;2,20;3,-",
+    },
+    Case {
+        name: "UPDATE t SET a = 7 WHERE 2 = a AND b > 15",
+        what: What::Set(0, Part::Number(7), Some(Part::IsAndAbove(2, 15))),
+        returning: &[],
+        outcome: "1:  | 1,10;7,20;3,-",
+    },
+    Case {
+        name: "UPDATE t SET a = 3 WHERE 2 = a",
+        what: What::Set(0, Part::Number(3), Some(Part::Is(2))),
+        returning: &[],
+        outcome: "23505",
+    },
+    Case {
+        name: "UPDATE t SET b = (SELECT max(b) FROM t) + 1 WHERE 1 = a",
+        what: What::Set(1, Part::Next, Some(Part::Is(1))),
+        returning: &[],
+        outcome: "1:  | 1,21;2,20;3,-",
+    },
+    Case {
         name: "DELETE FROM t",
         what: What::Delete(None),
         returning: &[],
@@ -222,6 +262,28 @@ fn compared(
     })
 }
 
+fn both(alloc: Global, number: i32, below: i32) -> Result<RExpr, AllocError> {
+    let mut parts = List::new(alloc);
+    parts.push(equals(alloc, number)?)?;
+    parts.push(compared(
+        alloc,
+        Comparison::Less,
+        RExpr::Constant(Value::Int(below)),
+        RExpr::Place { row: 2, column: 1 },
+    )?)?;
+    Ok(RExpr::And(parts))
+}
+
+// Whether the number is a.
+fn equals(alloc: Global, number: i32) -> Result<RExpr, AllocError> {
+    compared(
+        alloc,
+        Comparison::Equal,
+        RExpr::Constant(Value::Int(number)),
+        RExpr::Place { row: 2, column: 0 },
+    )
+}
+
 fn expression(alloc: Global, part: Part) -> Result<RExpr, AllocError> {
     match part {
         Part::Null => Ok(RExpr::Constant(Value::Null)),
@@ -249,6 +311,8 @@ fn expression(alloc: Global, part: Part) -> Result<RExpr, AllocError> {
                 RExpr::Place { row: 2, column: 0 },
             )
         }
+        Part::Is(n) => equals(alloc, n),
+        Part::IsAndAbove(n, below) => both(alloc, n, below),
     }
 }
 
