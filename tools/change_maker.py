@@ -143,8 +143,10 @@ class ChangeMaker(Maker):
 
     def target(self):
         """A table with its columns; often the first one, and seldom one that isn't there."""
-        if not self.tables or self.chance(0.02):
-            return self.choose(TABLES), [Column("a", INTEGER, MOST[INTEGER])]
+        absent = [it for it in TABLES if it not in dict(self.tables)]
+        if absent and (not self.tables or self.chance(0.03)):
+            # (no other mistake than that: of a table that is there the columns are known)
+            return self.choose(absent), [Column("a", INTEGER, MOST[INTEGER])]
         return self.tables[0] if self.chance(0.5) else self.choose(self.tables)
 
     def change(self, make):
