@@ -1,0 +1,48 @@
+//! Laws that the definitions keep.
+
+ghost use Rattle.std.specs.Prelude.{◌≡◌, ◌++◌, ◌∷◌, [], List};
+ghost use Rattle.pl_base.specs.declared.fail.Fail.{Fail};
+ghost use Rattle.pl_bodies.specs.declared.statement.Handler.{Handler};
+ghost use Rattle.pl_bodies.specs.declared.statement.Statement.{Statement};
+ghost use Rattle.pl_world.specs.Blocks.{deeper, handling, protected, sqlerrm_of, sqlstate_of};
+ghost use Rattle.pl_world.specs.Calls.{Callee, left, popped};
+ghost use Rattle.pl_world.specs.Running.{Runner, all};
+ghost use Rattle.pl_world.specs.Laws.{IsFail, end_of, events, goes_on, world_behind};
+ghost use Rattle.pl_world.specs.World.{Ran, World, and_then};
+ghost use Rattle.pl_world.specs.declared.outcome.Outcome.{Outcome};
+
+/// What a run tells comes in the order of its parts, and so does the world that it leaves.
+pub fn runs_join()
+    ensures events { (ran : Ran Outcome) (k : Outcome → World → Ran Outcome)
+        → events (and_then ran k) ≡ events ran ++ events (goes_on ran k) }
+    ensures world { (ran : Ran Outcome) (k : Outcome → World → Ran Outcome)
+        → world_behind (and_then ran k) ≡ world_behind (goes_on ran k) }
+{}
+
+/// A handler begins with the database of its block's entry, and with the variables, the steps and
+/// ROW_COUNT of the failure.
+pub fn handlers_begin()
+    ensures database { (entry : World) (f : Fail) (w : World)
+        → (handling entry f w).database ≡ entry.database }
+    ensures variables { (entry : World) (f : Fail) (w : World) → (handling entry f w).frame.values
+        ≡ (w.frame.values ++ sqlstate_of f ∷ []) ++ sqlerrm_of f ∷ [] }
+    ensures steps { (entry : World) (f : Fail) (w : World) → (handling entry f w).steps ≡ w.steps }
+    ensures row_count { (entry : World) (f : Fail) (w : World)
+        → (handling entry f w).frame.row_count ≡ w.frame.row_count }
+    ensures handled { (entry : World) (f : Fail) (w : World)
+        → (handling entry f w).frame.handled ≡ f ∷ w.frame.handled }
+{}
+
+/// A protected block whose statements don't fail leaves the database that they left.
+pub fn protection_keeps()
+    ensures database { (r : Runner) (ss : List Statement) (h : Handler) (hs : List Handler)
+        (w : World) → (IsFail (end_of (all r ss (deeper w))) → ⊥)
+        → (world_behind (protected r ss (h ∷ hs) w)).database
+        ≡ (world_behind (all r ss (deeper w))).database }
+{}
+
+/// Whatever a body ends with, its call is gone behind it, and nothing else of the world is changed.
+pub fn calls_end()
+    ensures world { (c : Callee) (o : Outcome) (w : World)
+        → world_behind (left c o w) ≡ popped w }
+{}

@@ -1,0 +1,13 @@
+//! What statements of bodies do, what calls of routines do, and what a session does with commands.
+//! The definitions stand in `specs/`; here are the types of what they answer.
+#![tactic(auto)]
+
+mod examples;
+mod laws;
+mod outcome;
+mod session;
+
+pub use examples::examples_hold;
+pub use laws::{calls_end, handlers_begin, protection_keeps, runs_join};
+pub use outcome::Outcome;
+pub use session::{Mode, Reply};
