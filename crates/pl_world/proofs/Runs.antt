@@ -1,17 +1,24 @@
--- The laws of runs, handlers and calls.
-use Rattle.std.proofs.Common.{◌≡◌, ◌∙◌, List, [], ◌∷◌, ◌++◌, Option, Some, None, Ok, Err, refl, ap}
-use Rattle.std.specs.Prelude.{Result}
+-- The laws of runs, handlers, calls and savepoints.
+use Rattle.std.proofs.Common.{◌≡◌, ◌∙◌, ℕ, Bool, true, false, List, [], ◌∷◌, ◌++◌, length, Option, Some, None, Ok, Err, refl, ap}
+use Rattle.std.proofs.lemmas.Slice.Eq.{bytes_eq-Decides}
+use Rattle.std.specs.Prelude.{Result, not, ◌&&◌, ◌||◌, bytes_eq}
+use Rattle.pl_base.specs.States.{ASSERT_FAILURE, QUERY_CANCELED}
 use Rattle.pl_base.specs.declared.fail.Fail.{Fail}
 use Rattle.pl_base.specs.declared.state.State.{State}
 use Rattle.pl_base.specs.declared.types.Ty.{Ty}
 use Rattle.pl_base.specs.declared.value.Value.{Value}
+use Rattle.pl_bodies.specs.declared.statement.Caught.{Caught}
+use Rattle.pl_bodies.specs.declared.statement.Caught.TheVariants as caught_by
 use Rattle.pl_bodies.specs.declared.statement.Handler.{Handler}
 use Rattle.pl_bodies.specs.declared.statement.Statement.{Statement}
 use Rattle.pl_world.specs.Blocks.{caught, deeper, handling, protected, sqlerrm_of, sqlstate_of}
 use Rattle.pl_world.specs.Calls.{Callee, given, left, popped}
+use Rattle.pl_names.specs.Names.{Name}
+use Rattle.pl_world.specs.Conditions.{code_of, covers, is_engine, is_out_of_steps, is_state, matches}
 use Rattle.pl_world.specs.Conversions.{as_type, converted, settled}
 use Rattle.pl_world.specs.Errors.{Spot}
 use Rattle.pl_world.specs.Running.{Runner, all, body, spot_of}
+use Rattle.pl_world.specs.Sessions.{Save, later, place_of, saved}
 use Rattle.pl_world.specs.Variables.{declared, opened}
 use Rattle.pl_world.specs.Laws.{IsFail, end_of, events, goes_on, world_behind}
 use Rattle.pl_world.specs.World.{Event, Ran, World, made, behind, and_then, ends}
@@ -86,3 +93,16 @@ popped_behind (made w o es) = refl
 pub ended : (c : Callee) (o : Outcome) (w : World) → world_behind (left c o w) ≡ popped w
 unfolding left
 ended c o w = popped_behind (given c.result o (spot_of (body c.body)) w) ∙ ap (λ (v : World). popped v) (given_world c.result o (spot_of (body c.body)) w)
+
+right : (a b : Bool) → (a && b) ≡ true → b ≡ true
+right true b is = is
+right false b is = let no_way : ⊥ = cc in absurd no_way
+
+pub unmatched : (c : Caught) (f : Fail) → is_out_of_steps f ≡ true → matches c f ≡ false
+unfolding matches
+unmatched caught_by.Others f is = ap (λ (b : Bool). not (b || is_state f.state ASSERT_FAILURE)) (right (is_engine f.origin) (is_state f.state QUERY_CANCELED) is)
+unmatched (caught_by.Condition c) f is = ap (λ (b : Bool). not b && covers (code_of c) f.state) is
+
+pub found : (name : Name) (w : World) (saves : List Save) → place_of name (saves ++ saved name w ∷ []) ≡ Some (length saves)
+found name w [] = ap (λ (b : Bool). later None b) ((bytes_eq-Decides name name).1 refl)
+found name w (s ∷ ss) = ap (λ (o : Option ℕ). later o (bytes_eq s.name name)) (found name w ss)

@@ -1,6 +1,5 @@
 -- Words of laws about runs. No definition of what a statement does is here.
 use Rattle.std.specs.Prelude.{List}
-use Rattle.pl_base.specs.declared.fail.Fail.{Fail}
 use Rattle.pl_world.specs.World.{Event, Ran, World, made}
 use Rattle.pl_world.specs.declared.outcome.Outcome.{Outcome}
 use Rattle.pl_world.specs.declared.outcome.Outcome.TheVariants as outcome

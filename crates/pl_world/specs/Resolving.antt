@@ -1,7 +1,7 @@
 -- What statements resolve, each form by a word of its own. A word takes the objects, the tree and
 -- what names mean, and nothing else: no value, no row, nothing of the run. The checker asks the
 -- same words. PostgreSQL manual, "PL/pgSQL", "Variable Substitution".
-use Rattle.std.specs.Prelude.{ℕ, ◌+◌, Bool, false, if◌then◌else◌, List, [], ◌∷◌, Option}
+use Rattle.std.specs.Prelude.{ℕ, ◌+◌, Bool, false, List, [], ◌∷◌, Option}
 use Rattle.std.specs.Prelude.{Some, None, Ok, Err, length, map, slice_get, unwrap_or}
 use Rattle.pl_base.specs.States.{DATATYPE_MISMATCH, FEATURE_NOT_SUPPORTED, UNDEFINED_FUNCTION}
 use Rattle.pl_base.specs.States.{UNDEFINED_OBJECT, WRONG_OBJECT_TYPE}

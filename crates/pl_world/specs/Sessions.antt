@@ -37,8 +37,8 @@ use Rattle.pl_world.specs.Resolving as words
 use Rattle.pl_world.specs.Running.{Bodies, Runner}
 use Rattle.pl_world.specs.Statements.{runner_for}
 use Rattle.pl_world.specs.Transactions.{does, procedure_called}
-use Rattle.pl_world.specs.World.{Began, Committed, Event, Frame, Ran, Said, World, a_definition}
-use Rattle.pl_world.specs.World.{a_rollback, made, behind, and_then, ends}
+use Rattle.pl_world.specs.World.{Began, Committed, Event, Frame, Raised, Ran, Said, World}
+use Rattle.pl_world.specs.World.{a_definition, a_rollback, made, behind, and_then, ends}
 use Rattle.pl_world.specs.declared.outcome.Outcome.{Outcome}
 use Rattle.pl_world.specs.declared.outcome.Outcome.TheVariants as outcome
 use Rattle.pl_world.specs.declared.session.Mode.{Mode}
@@ -144,15 +144,16 @@ after_error mode.Idle = mode.Idle
 after_error mode.Block = mode.Failed
 after_error mode.Failed = mode.Failed
 
--- refused as it stands
-abbrev pub refused : State → Session → Went
-refused state s =
-    went (session s.world (after_error s.mode) s.saves) (failing (failure state top s.world)) []
+-- an error, and nothing is done
+abbrev pub refuses : Fail → Session → Went
+refuses f s = went (session s.world (after_error s.mode) s.saves) (failing f) (Raised f ∷ [])
 
--- a warning, and then the tag
-abbrev pub warned : State → Tag → Session → Went
-warned state t s =
-    went s (tagged t) (Said (notice_bytes Warning (condition_name state.code) None None) ∷ [])
+abbrev pub refused : State → Session → Went
+refused state s = refuses (failure state top s.world) s
+
+-- the line of a warning
+abbrev pub warning : State → List Event
+warning state = Said (notice_bytes Warning (condition_name state.code) None None) ∷ []
 
 -- ---- ends of transactions
 
@@ -205,17 +206,19 @@ does_plain bodies budget c mode.Failed s = refused IN_FAILED_SQL_TRANSACTION s
 abbrev pub begins : Tag → Mode → Session → Went
 begins t mode.Idle s =
     went (session (record s.world { in_block = true }) mode.Block []) (tagged t) []
-begins t mode.Block s = warned ACTIVE_SQL_TRANSACTION t s
+begins t mode.Block s = went s (tagged t) (warning ACTIVE_SQL_TRANSACTION)
 begins t mode.Failed s = refused IN_FAILED_SQL_TRANSACTION s
 
 -- COMMIT of a void block is a ROLLBACK
 abbrev pub commits : Mode → Session → Went
-commits mode.Idle s = warned NO_ACTIVE_SQL_TRANSACTION tag.Commit s
+commits mode.Idle s =
+    settled (tagged tag.Commit) (warning NO_ACTIVE_SQL_TRANSACTION) s.world
 commits mode.Block s = settled (tagged tag.Commit) [] s.world
 commits mode.Failed s = undone (tagged tag.Rollback) (Began a_rollback ∷ []) s.world
 
 abbrev pub rolls_back : Mode → Session → Went
-rolls_back mode.Idle s = warned NO_ACTIVE_SQL_TRANSACTION tag.Rollback s
+rolls_back mode.Idle s =
+    settled (tagged tag.Rollback) (warning NO_ACTIVE_SQL_TRANSACTION) s.world
 rolls_back m s = undone (tagged tag.Rollback) (Began a_rollback ∷ []) s.world
 
 -- ---- savepoints

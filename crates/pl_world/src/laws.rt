@@ -1,13 +1,17 @@
 //! Laws that the definitions keep.
 
-ghost use Rattle.std.specs.Prelude.{◌≡◌, ◌++◌, ◌∷◌, [], List};
+ghost use Rattle.std.specs.Prelude.{◌≡◌, ◌++◌, ◌∷◌, [], false, length, List, Some, true};
 ghost use Rattle.pl_base.specs.declared.fail.Fail.{Fail};
+ghost use Rattle.pl_bodies.specs.declared.statement.Caught.{Caught};
 ghost use Rattle.pl_bodies.specs.declared.statement.Handler.{Handler};
 ghost use Rattle.pl_bodies.specs.declared.statement.Statement.{Statement};
 ghost use Rattle.pl_world.specs.Blocks.{deeper, handling, protected, sqlerrm_of, sqlstate_of};
 ghost use Rattle.pl_world.specs.Calls.{Callee, left, popped};
 ghost use Rattle.pl_world.specs.Running.{Runner, all};
+ghost use Rattle.pl_names.specs.Names.{Name};
+ghost use Rattle.pl_world.specs.Conditions.{is_out_of_steps, matches};
 ghost use Rattle.pl_world.specs.Laws.{IsFail, end_of, events, goes_on, world_behind};
+ghost use Rattle.pl_world.specs.Sessions.{Save, place_of, saved};
 ghost use Rattle.pl_world.specs.World.{Ran, World, and_then};
 ghost use Rattle.pl_world.specs.declared.outcome.Outcome.{Outcome};
 
@@ -45,4 +49,16 @@ pub fn protection_keeps()
 pub fn calls_end()
     ensures world { (c : Callee) (o : Outcome) (w : World)
         → world_behind (left c o w) ≡ popped w }
+{}
+
+/// No condition of a handler matches the error that no step is left.
+pub fn steps_end_all()
+    ensures unmatched { (c : Caught) (f : Fail) → is_out_of_steps f ≡ true
+        → matches c f ≡ false }
+{}
+
+/// A savepoint that was just made is the one of its name, whichever savepoints there were before.
+pub fn savepoints_are_found()
+    ensures newest { (name : Name) (w : World) (saves : List Save)
+        → place_of name (saves ++ saved name w ∷ []) ≡ Some (length saves) }
 {}

@@ -8,6 +8,8 @@ mod outcome;
 mod session;
 
 pub use examples::examples_hold;
-pub use laws::{calls_end, handlers_begin, protection_keeps, runs_join};
+pub use laws::{
+    calls_end, handlers_begin, protection_keeps, runs_join, savepoints_are_found, steps_end_all,
+};
 pub use outcome::Outcome;
 pub use session::{Mode, Reply};
