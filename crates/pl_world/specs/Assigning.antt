@@ -25,16 +25,20 @@ use Rattle.pl_world.specs.declared.outcome.Outcome.TheVariants as outcome
 
 -- ---- one variable
 
-abbrev pub put_if : Bool → ℕ → Value → Spot → World → Ran Outcome
-put_if true to v at w = ends outcome.Next (with_value to v w)
-put_if false to v at w = raised NULL_VALUE_NOT_ALLOWED at w
-
+-- a variable that is required takes no null
 abbrev pub takes : Bool → Value → Bool
 takes is_required v = not (is_required && is_null v)
 
--- the value goes in as one of the variable's type; a variable that is required takes no null
+-- the world with the value, if the variable takes it
+abbrev pub kept_if : Bool → World → Spot → World → Ran Outcome
+kept_if true next at w = ends outcome.Next next
+kept_if false next at w = raised NULL_VALUE_NOT_ALLOWED at w
+
+-- the value goes in as one of the variable's type
 unfoldable pub put : Variable → Value → Spot → World → Ran Outcome
-put to v at w = as_type to.ty v at w (λ v w. put_if (takes to.is_required v) to.at v at w)
+put to v at w =
+    as_type to.ty v at w (λ v w.
+    kept_if (takes to.is_required v) (with_value to.at v w) at w)
 
 -- target := value
 unfoldable pub assigned : Runner → Spot → Placing → World → Ran Outcome

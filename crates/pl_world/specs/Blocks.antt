@@ -1,9 +1,9 @@
 -- Blocks, their declarations and their handlers: PostgreSQL manual, "PL/pgSQL", "Structure of
 -- PL/pgSQL", "Declarations", "Trapping Errors". A block with handlers keeps a copy of the whole
 -- database, and a handler begins with that copy; the variables stay as they are.
-use Rattle.std.specs.Prelude.{suc, Bool, true, false, if◌then◌else◌, List, [], ◌∷◌, Option, Some}
-use Rattle.std.specs.Prelude.{None, Ok, bytes_eq, codes}
-use Rattle.pl_base.specs.States.{FEATURE_NOT_SUPPORTED, NULL_VALUE_NOT_ALLOWED}
+use Rattle.std.specs.Prelude.{suc, Bool, false, if◌then◌else◌, List, [], ◌∷◌, Option, Some}
+use Rattle.std.specs.Prelude.{None, Ok, bytes_eq, codes, drop}
+use Rattle.pl_base.specs.States.{FEATURE_NOT_SUPPORTED}
 use Rattle.pl_base.specs.declared.fail.Fail.{Fail}
 use Rattle.pl_base.specs.declared.types.Ty.{Ty}
 use Rattle.pl_base.specs.declared.types.Ty.TheVariants.{Text as TextType}
@@ -20,7 +20,7 @@ use Rattle.pl_names.specs.Names.{Name}
 use Rattle.pl_print.specs.Messages.{message_text}
 use Rattle.pl_scope.specs.declared.resolve.ResolvedExpr.{ResolvedExpr}
 use Rattle.pl_tree.specs.declared.tree.Expr.{Expr}
-use Rattle.pl_world.specs.Assigning.{takes}
+use Rattle.pl_world.specs.Assigning.{kept_if, takes}
 use Rattle.pl_world.specs.Conditions.{matches_one}
 use Rattle.pl_world.specs.Conversions.{as_type}
 use Rattle.pl_world.specs.Errors.{Spot, raised, resolved}
@@ -55,14 +55,10 @@ abbrev pub default_value : Runner → Spot → Option ResolvedExpr → World
 default_value r at None w k = k Null w
 default_value r at (Some x) w k = evaluated r at x w k
 
-abbrev pub declared_if : Bool → Name → Ty → Bool → Value → Spot → World → Ran Outcome
-declared_if true name ty is_required v at w = ends outcome.Next (declared name ty is_required v w)
-declared_if false name ty is_required v at w = raised NULL_VALUE_NOT_ALLOWED at w
-
 abbrev pub declares : Runner → Spot → Name → Bool → Declaring → World → Ran Outcome
 declares r at name is_required d w =
     default_value r at d.value w (λ v w. as_type d.ty v at w (λ v w.
-    declared_if (takes is_required v) name d.ty is_required v at w))
+    kept_if (takes is_required v) (declared name d.ty is_required v w) at w))
 
 abbrev pub one_declared : Runner → Spot → Name → DeclarationKind → World → Ran Outcome
 one_declared r at name (declare.Variable is_constant t is_not_null default) w =
@@ -89,13 +85,9 @@ handler_for (h ∷ hs) f =
 abbrev pub with_handled : Fail → World → World
 with_handled f w = record w { frame = record w.frame { handled = f ∷ w.frame.handled } }
 
-abbrev pub rest_of : List Fail → List Fail
-rest_of [] = []
-rest_of (f ∷ fs) = fs
-
 -- it is no longer
 abbrev pub without_handled : World → World
-without_handled w = record w { frame = record w.frame { handled = rest_of w.frame.handled } }
+without_handled w = record w { frame = record w.frame { handled = drop 1 w.frame.handled } }
 
 abbrev pub sqlstate_of : Fail → Value
 sqlstate_of f = Text f.state.code

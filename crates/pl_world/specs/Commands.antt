@@ -1,7 +1,7 @@
 -- Commands in bodies: PostgreSQL manual, "PL/pgSQL", "Executing SQL Commands", "Obtaining the
 -- Result Status". A query's rows go into variables, or are only counted.
 use Rattle.std.specs.Prelude.{ℕ, Bool, true, false, not, List, [], ◌∷◌, Option, Some, None, Ok}
-use Rattle.std.specs.Prelude.{Err, bytes_eq, length, min}
+use Rattle.std.specs.Prelude.{Err, bytes_eq, drop, length, min}
 use Rattle.std.specs.List.{list_any}
 use Rattle.pl_base.specs.States.{FEATURE_NOT_SUPPORTED, NO_DATA_FOUND, OBJECT_IN_USE}
 use Rattle.pl_base.specs.States.{SYNTAX_ERROR, TOO_MANY_ROWS}
@@ -88,13 +88,9 @@ altering c targets =
     then_ask (changing c) (λ change. then_ask (aiming_all targets) (λ vs.
     ask (Ok (record { change = change; into = vs }))))
 
-abbrev pub rest_of : {A : Type 0} → List A → List A
-rest_of [] = []
-rest_of (x ∷ xs) = xs
-
 -- the change no longer runs
 abbrev pub changed_now : World → World
-changed_now w = record w { changing = rest_of w.changing }
+changed_now w = record w { changing = drop 1 w.changing }
 
 abbrev pub unless_returning : List Head → Spot → World → Ran Outcome
 unless_returning [] at w = ends outcome.Next w

@@ -1,6 +1,6 @@
 -- RAISE and ASSERT: PostgreSQL manual, "PL/pgSQL", "Errors and Messages".
 use Rattle.std.specs.Prelude.{ℕ, Bool, ◌==◌, if◌then◌else◌, List, [], ◌∷◌, ◌++◌, Option, Some, None}
-use Rattle.std.specs.Prelude.{Ok, Err, codes, length, nat_le, unwrap_or}
+use Rattle.std.specs.Prelude.{Ok, Err, codes, drop, length, nat_le, unwrap_or}
 use Rattle.std.specs.Option.{option_map, option_or}
 use Rattle.pl_base.specs.States.{ASSERT_FAILURE, NULL_VALUE_NOT_ALLOWED, PROGRAM_LIMIT_EXCEEDED}
 use Rattle.pl_base.specs.States.{RAISE_EXCEPTION, UNDEFINED_OBJECT}
@@ -61,10 +61,6 @@ abbrev pub first_text : List Text → Text
 first_text [] = []
 first_text (t ∷ ts) = t
 
-abbrev pub other_texts : List Text → List Text
-other_texts [] = []
-other_texts (t ∷ ts) = ts
-
 -- each `%` is the next argument, and `%%` is a percent sign
 abbrev pub formatted : Text → List Text → Text
 formatted [] ts = []
@@ -72,7 +68,7 @@ formatted (c ∷ []) ts = if c == percent then first_text ts else c ∷ []
 formatted (c ∷ d ∷ cs) ts =
     if c == percent
     then (if d == percent then percent ∷ formatted cs ts
-    else first_text ts ++ formatted (d ∷ cs) (other_texts ts))
+    else first_text ts ++ formatted (d ∷ cs) (drop 1 ts))
     else c ∷ formatted (d ∷ cs) ts
 
 -- ---- what is raised
