@@ -48,9 +48,9 @@ def write_tables(folder, tables, rows):
     return files
 
 
-def replies_in_time(words):
+def replies_in_time(words, end=END):
     """Runs a program. The answer is the moments at which a reply was whole, the peak, and all that was printed."""
-    began, moments, printed = time.monotonic(), [], b""
+    began, moments, printed, behind = time.monotonic(), [], bytearray(), 0
     ran = subprocess.Popen(words, stdin=subprocess.DEVNULL, stdout=subprocess.PIPE, stderr=subprocess.STDOUT)
     is_late, has_more = False, True
     while has_more and not is_late:
@@ -58,7 +58,10 @@ def replies_in_time(words):
         part = b"" if is_late else os.read(ran.stdout.fileno(), 1 << 20)
         has_more, now = bool(part), time.monotonic()
         printed += part
-        moments += [now] * (len(END.findall(printed)) - len(moments))
+        # (what was looked through isn't looked through again: there may be thousands of replies)
+        for found in end.finditer(printed, behind):
+            moments.append(now)
+            behind = found.end()
     if is_late:
         os.kill(ran.pid, signal.SIGKILL)
     # (calls of Popen would take the status, and wait4 tells the peak)
@@ -68,7 +71,7 @@ def replies_in_time(words):
     name = os.path.basename(words[0])
     check(not is_late, f"{name} takes more than {PATIENCE} s")
     check(ran.returncode == 0, f"{name} ended with status {ran.returncode}")
-    return moments, used.ru_maxrss * 1024, printed
+    return moments, used.ru_maxrss * 1024, bytes(printed)
 
 
 class QueryCases:
