@@ -56,6 +56,9 @@ UNIQUE_VIOLATION = record { code = codes "23505" }
 abbrev pub CHECK_VIOLATION : State
 CHECK_VIOLATION = record { code = codes "23514" }
 
+abbrev pub ACTIVE_SQL_TRANSACTION : State
+ACTIVE_SQL_TRANSACTION = record { code = codes "25001" }
+
 abbrev pub NO_ACTIVE_SQL_TRANSACTION : State
 NO_ACTIVE_SQL_TRANSACTION = record { code = codes "25P01" }
 

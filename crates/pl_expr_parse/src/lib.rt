@@ -13,6 +13,8 @@ mod trees;
 
 pub use parse::{parse_expr, parse_query};
 pub use readers::{
-    read_alias, read_arguments, read_expression, read_items, read_operand, read_query, read_type,
+    read_alias, read_arguments, read_condition, read_expression, read_groups, read_having,
+    read_items, read_operand, read_order, read_paging, read_query, read_selected, read_sources,
+    read_type,
 };
-pub use trees::may_have;
+pub use trees::{may_have, type_of};

@@ -6,9 +6,9 @@ ghost use Rattle.pl_expr_parse.specs.Finished.{reads_front};
 
 use crate::grammar::Grammar;
 use crate::parse::inside;
-use pl_base::{List, Name, Ty};
+use pl_base::{Boxed, List, Name, Ty};
 use pl_grammar::{Fail, Tokens};
-use pl_tree::{Argument, Expr, Item, Query};
+use pl_tree::{Argument, Expr, From, Item, Key, Query};
 use std::alloc::Global;
 
 /// An expression.
@@ -65,6 +65,107 @@ pub fn read_items(alloc: Global, tokens: &mut Tokens<'_>) -> Result<List<Item>, 
         inside,
     }
     .items(tokens)
+}
+
+/// The items of a query with DISTINCT or ALL before them: whether it is DISTINCT, and they.
+#[tactic(auto, unfolding(crate::specs::Finished::reads_front))]
+pub fn read_selected(alloc: Global, tokens: &mut Tokens<'_>) -> Result<(bool, List<Item>), Fail>
+    ensures { Reads (reads_front spec.Selected tokens.old) result tokens.new }
+{
+    let depth = tokens.depth_bound();
+    Grammar {
+        alloc,
+        depth,
+        inside,
+    }
+    .selected(tokens)
+}
+
+/// What FROM has, if it is there.
+#[tactic(auto, unfolding(crate::specs::Finished::reads_front))]
+pub fn read_sources(alloc: Global, tokens: &mut Tokens<'_>) -> Result<List<From>, Fail>
+    ensures { Reads (reads_front spec.Sources tokens.old) result tokens.new }
+{
+    let depth = tokens.depth_bound();
+    Grammar {
+        alloc,
+        depth,
+        inside,
+    }
+    .sources(tokens)
+}
+
+/// What WHERE asks, if it is there.
+#[tactic(auto, unfolding(crate::specs::Finished::reads_front))]
+pub fn read_condition(alloc: Global, tokens: &mut Tokens<'_>) -> Result<Option<Boxed<Expr>>, Fail>
+    ensures { Reads (reads_front spec.Condition tokens.old) result tokens.new }
+{
+    let depth = tokens.depth_bound();
+    Grammar {
+        alloc,
+        depth,
+        inside,
+    }
+    .condition(tokens)
+}
+
+/// The keys of GROUP BY, if it is there.
+#[tactic(auto, unfolding(crate::specs::Finished::reads_front))]
+pub fn read_groups(alloc: Global, tokens: &mut Tokens<'_>) -> Result<List<Expr>, Fail>
+    ensures { Reads (reads_front spec.Groups tokens.old) result tokens.new }
+{
+    let depth = tokens.depth_bound();
+    Grammar {
+        alloc,
+        depth,
+        inside,
+    }
+    .groups(tokens)
+}
+
+/// What HAVING asks, if it is there.
+#[tactic(auto, unfolding(crate::specs::Finished::reads_front))]
+pub fn read_having(alloc: Global, tokens: &mut Tokens<'_>) -> Result<Option<Boxed<Expr>>, Fail>
+    ensures { Reads (reads_front spec.Having tokens.old) result tokens.new }
+{
+    let depth = tokens.depth_bound();
+    Grammar {
+        alloc,
+        depth,
+        inside,
+    }
+    .having(tokens)
+}
+
+/// The keys of ORDER BY, if it is there.
+#[tactic(auto, unfolding(crate::specs::Finished::reads_front))]
+pub fn read_order(alloc: Global, tokens: &mut Tokens<'_>) -> Result<List<Key>, Fail>
+    ensures { Reads (reads_front spec.Order tokens.old) result tokens.new }
+{
+    let depth = tokens.depth_bound();
+    Grammar {
+        alloc,
+        depth,
+        inside,
+    }
+    .order(tokens)
+}
+
+/// LIMIT and OFFSET, where they are there.
+#[tactic(auto, unfolding(crate::specs::Finished::reads_front))]
+pub fn read_paging(
+    alloc: Global,
+    tokens: &mut Tokens<'_>,
+) -> Result<(Option<Boxed<Expr>>, Option<Boxed<Expr>>), Fail>
+    ensures { Reads (reads_front spec.Paging tokens.old) result tokens.new }
+{
+    let depth = tokens.depth_bound();
+    Grammar {
+        alloc,
+        depth,
+        inside,
+    }
+    .paging(tokens)
 }
 
 /// The arguments of a call behind its opening bracket, and the closing one.

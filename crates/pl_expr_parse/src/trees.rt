@@ -311,7 +311,7 @@ fn catalogued(name: Name) -> Ty
 }
 
 /// The type of this name, which stands in quotes or not.
-pub(crate) fn type_of(in_quotes: bool, name: Name) -> Ty
+pub fn type_of(in_quotes: bool, name: Name) -> Ty
     ensures { result ≡ spec.type_of in_quotes name }
 {
     if in_quotes {

@@ -3,6 +3,7 @@ pub mod Step
 pub mod Told
 pub mod Flat
 pub mod Theorem
+pub mod Finished
 pub mod Placed
 pub mod Which
 pub mod Calls

@@ -74,7 +74,7 @@ all_flat Dropped = refl
 all_flat IfExists = refl
 all_flat Types = refl
 
-at_depth : (d : ℕ) (p : Part) (ts : Tokens) → read_inside rule first_follow (suc d) p ts ≡ reads_part p ts
+pub at_depth : (d : ℕ) (p : Part) (ts : Tokens) → read_inside rule first_follow (suc d) p ts ≡ reads_part p ts
 unfolding reads_part
 at_depth d p ts = any_depth rule first_follow all_flat d p ts
 

@@ -8,9 +8,14 @@ mod drops;
 mod left_out;
 mod parse;
 mod parts;
+mod readers;
 mod routines;
 mod tables;
 mod trees;
 mod triggers;
 
-pub use parse::{one_command, parse_command};
+pub use parse::{one_command, parse_command, source};
+pub use readers::{
+    read_call, read_definition, read_delete, read_do_body, read_insert, read_savepoint_name,
+    read_update,
+};

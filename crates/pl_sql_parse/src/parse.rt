@@ -36,8 +36,8 @@ fn whole_definition(alloc: Global, tokens: &[Token]) -> Result<Definition, Fail>
     whole(tokens, |rest| definition(alloc, rest))
 }
 
-// The text from the first byte of the first token to the last byte of the last.
-fn source(alloc: Global, tokens: &[Token], text: &str) -> Result<Txt, AllocError>
+/// The text from the first byte of the first token to the last byte of the last.
+pub fn source(alloc: Global, tokens: &[Token], text: &str) -> Result<Txt, AllocError>
     requires placed { Placed text.now tokens.now }
     ensures { IfOk result (λ source. source ≡ slice_of text.now tokens.now) }
 {

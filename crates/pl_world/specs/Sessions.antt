@@ -3,7 +3,7 @@
 -- of the whole database.
 use Rattle.std.specs.Prelude.{ℕ, suc, Bool, true, false, if◌then◌else◌, List, [], ◌∷◌, ◌++◌}
 use Rattle.std.specs.Prelude.{Option, Some, None, bytes_eq, codes, length, slice_get, take}
-use Rattle.pl_base.specs.States.{IN_FAILED_SQL_TRANSACTION}
+use Rattle.pl_base.specs.States.{ACTIVE_SQL_TRANSACTION, IN_FAILED_SQL_TRANSACTION}
 use Rattle.pl_base.specs.States.{INVALID_SAVEPOINT_SPECIFICATION, NO_ACTIVE_SQL_TRANSACTION}
 use Rattle.pl_base.specs.States.{PROGRAM_LIMIT_EXCEEDED}
 use Rattle.pl_base.specs.declared.fail.Fail.{Fail}
@@ -44,10 +44,6 @@ use Rattle.pl_world.specs.declared.outcome.Outcome.TheVariants as outcome
 use Rattle.pl_world.specs.declared.session.Mode.{Mode}
 use Rattle.pl_world.specs.declared.session.Mode.TheVariants as mode
 use Rattle.pl_world.specs.declared.session.Reply.{Reply}
-
--- active_sql_transaction
-abbrev pub ACTIVE_SQL_TRANSACTION : State
-ACTIVE_SQL_TRANSACTION = record { code = codes "25001" }
 
 -- ---- replies
 
