@@ -87,7 +87,7 @@ pub fn read_values(
     ensures taken { IfOk result (λ found.
         Takes (flat_map value_bytes) (list_all is_stored_value) input.old found input.new) }
 {
-    let mut values = List::new(alloc);
+    let mut values = List::from_vec(Vec::with_capacity(alloc, count)?);
     for _turn in 0..count {
         let Some(value) = read_value(alloc, input)? else {
             return Ok(None);

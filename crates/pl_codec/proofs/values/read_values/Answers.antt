@@ -7,11 +7,13 @@ use Rattle.pl_codec.proofs.ReadSoFar.{Taken, Values, nothing_taken, one_taken, n
 use Rattle.pl_codec.proofs.values.read_values.Goals as goal
 
 pub loop-turn-init : goal.loop-turn-init
-loop-turn-init c = record {
-  size = ap length c.new-values.ensures;
-  read = subst (λ (vs : List Value). Values c.args.input.now c.args.count vs c.args.input.now) (sym c.new-values.ensures) (no_values c.args.input.now c.args.count);
-  taken = subst (λ (vs : List Value). Taken value_bytes is_stored_value c.args.input.now vs c.args.input.now) (sym c.new-values.ensures) (nothing_taken value_bytes is_stored_value c.args.input.now);
-}
+loop-turn-init c =
+    let none : c.from_vec-values.result ≡ [] = c.from_vec-values.ensures ∙ c.in_ok-with_capacity.ensures.items in
+    record {
+      size = ap length none;
+      read = subst (λ (vs : List Value). Values c.args.input.now c.args.count vs c.args.input.now) (sym none) (no_values c.args.input.now c.args.count);
+      taken = subst (λ (vs : List Value). Taken value_bytes is_stored_value c.args.input.now vs c.args.input.now) (sym none) (nothing_taken value_bytes is_stored_value c.args.input.now);
+    }
 
 pub returns-in_default-clause-read : goal.returns-in_default-clause-read
 returns-in_default-clause-read c =
