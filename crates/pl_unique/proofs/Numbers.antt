@@ -1,7 +1,7 @@
 -- Keys at places, by their numbers.
 use Rattle.std.proofs.Common.{◌≡◌, ◌≤◌, ◌<◌, ◌-◌, ◌↔◌, ℕ, zero, suc, List, [], ◌∷◌, ◌++◌, length, map, take, Option, None, Some, Result, Ok, Err, refl, sym, ap, subst, ◌∙◌, arith}
 use Rattle.std.specs.List.{slice_get, slice_set, AllByRecursion}
-use Rattle.std.specs.Option.{ForSome, option_map}
+use Rattle.std.specs.Option.{ForSome}
 use Rattle.std.specs.Result.{OnErr}
 use Rattle.pl_history.specs.History.{History, back, changed, last_or, seen_as}
 use Rattle.pl_history.specs.HistoryLaws.{all_more, seen_changed}
@@ -130,21 +130,16 @@ at_end (k ∷ ks) key = at_end ks key
 
 -- where a key was added or is known already
 module _ (old new : KeyList) (more : length old ≤ length new) (kept : (n : ℕ) → n < length old → slice_get new n ≡ slice_get old n) where
-  module _ {V : Type 0} (items : V → List Part) where
-    of_map : (key : Option V) (parts : List Part) → option_map items key ≡ Some parts → (v : V) × (key ≡ Some v) × (items v ≡ parts)
-    of_map None parts is = absurd cc
-    of_map (Some v) parts is = (v, refl, let e : Some (items v) ≡ Some parts = is in cc)
-
-    -- where its number stands, it stands
-    pub stands : (P : ℕ → Type 0) (numbers : Numbers) (key : Option V) (number : Option ℕ) → Known (length old) numbers
-        → ForSome number (λ (n : ℕ). n < length new) → known new number ≡ option_map items key
-        → ForSome key (λ (v : V). (at : ℕ) → slice_get (keys_at old numbers) at ≡ Some (Some (items v)) → P at)
-        → ForSome number (λ (n : ℕ). (at : ℕ) → slice_get numbers at ≡ Some (Some n) → P at)
-    stands P numbers key number below within is at_places n e at has =
-        let k = some_key new n (within n e) in
-        let m = of_map key k.0 (sym is ∙ (ap (known new) e ∙ k.1)) in
-        let was : slice_get old n ≡ Some k.0 = sym (kept n (below at n has)) ∙ k.1 in
-        at_places m.0 m.1 at (has_key old k.0 numbers n at was has ∙ ap (λ (ps : List Part). let r : Option (Option (List Part)) = Some (Some ps) in r) (sym m.2))
+  -- where its number stands, it stands
+  pub stands : (P : ℕ → Type 0) (numbers : Numbers) (key : Option (List Part)) (number : Option ℕ) → Known (length old) numbers
+      → ForSome number (λ (n : ℕ). n < length new) → known new number ≡ key
+      → ForSome key (λ (v : List Part). (at : ℕ) → slice_get (keys_at old numbers) at ≡ Some (Some v) → P at)
+      → ForSome number (λ (n : ℕ). (at : ℕ) → slice_get numbers at ≡ Some (Some n) → P at)
+  stands P numbers key number below within is at_places n e at has =
+      let k = some_key new n (within n e) in
+      let there : key ≡ Some k.0 = sym is ∙ (ap (known new) e ∙ k.1) in
+      let was : slice_get old n ≡ Some k.0 = sym (kept n (below at n has)) ∙ k.1 in
+      at_places k.0 there at (has_key old k.0 numbers n at was has)
 
   module _ (h g : History Numbers) (same : g ≡ h) (all : AllByRecursion (Known (length old)) (h.current ∷ h.past)) where
     pub stays : seen_as (keys_at new) g ≡ seen_as (keys_at old) h

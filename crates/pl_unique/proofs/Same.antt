@@ -27,20 +27,20 @@ all_at P [] i x all is = absurd cc
 all_at P (y ∷ ys) zero x all is = subst P (let e : Some y ≡ Some x = is in cc) all.0
 all_at P (y ∷ ys) (suc i) x all is = all_at P ys i x all.1 is
 
--- a test that passes what is seen as b
-module _ {A B : Type 0} (seen : A → B) (test : A → Bool) (b : B) (told : (a : A) → test a ≡ true → b ≡ seen a) (holds : (a : A) → b ≡ seen a → test a ≡ true) where
+-- a test that passes b alone
+module _ {A : Type 0} (test : A → Bool) (b : A) (told : (a : A) → test a ≡ true → b ≡ a) (holds : (a : A) → b ≡ a → test a ≡ true) where
   -- the first that passes
-  pub first_is : (xs : List A) (n : ℕ) → n ≡ position_or_len test xs → n < length xs → slice_get (map seen xs) n ≡ Some b
+  pub first_is : (xs : List A) (n : ℕ) → n ≡ position_or_len test xs → n < length xs → slice_get xs n ≡ Some b
   first_is [] n is lt = absurd (omega (arith, lt))
   first_is (x ∷ xs) zero is lt =
-      (elim (test x) as (λ (t : Bool). test x ≡ t → (0 ≡ cond (not t) (1 + prefix_len (λ (y : A). not (test y)) xs) 0) → Some (seen x) ≡ Some b)
+      (elim (test x) as (λ (t : Bool). test x ≡ t → (0 ≡ cond (not t) (1 + prefix_len (λ (y : A). not (test y)) xs) 0) → Some x ≡ Some b)
       [ true ↦ λ e h. ap Some (sym (told x e)) | false ↦ λ e h. absurd (omega (arith, h)) ]) refl is
   first_is (x ∷ xs) (suc n) is lt =
-      (elim (test x) as (λ (t : Bool). (suc n ≡ cond (not t) (1 + prefix_len (λ (y : A). not (test y)) xs) 0) → slice_get (map seen xs) n ≡ Some b)
+      (elim (test x) as (λ (t : Bool). (suc n ≡ cond (not t) (1 + prefix_len (λ (y : A). not (test y)) xs) 0) → slice_get xs n ≡ Some b)
       [ true ↦ λ h. absurd (omega (arith, h)) | false ↦ λ h. first_is xs n (omega (arith, h)) (omega (arith, lt)) ]) is
 
-  -- none passes where nothing is seen as b
-  pub none_is : (xs : List A) → ((n : ℕ) → slice_get (map seen xs) n ≡ Some b → ⊥) → list_any test xs ≡ false
+  -- none passes where b isn't there
+  pub none_is : (xs : List A) → ((n : ℕ) → slice_get xs n ≡ Some b → ⊥) → list_any test xs ≡ false
   none_is [] absent = refl
   none_is (x ∷ xs) absent =
       (elim (test x) as (λ (t : Bool). test x ≡ t → list_any test (x ∷ xs) ≡ false) [
@@ -48,28 +48,26 @@ module _ {A B : Type 0} (seen : A → B) (test : A → Bool) (b : B) (told : (a 
         | false ↦ λ e. ap (λ (t : Bool). t || list_any test xs) e ∙ none_is xs (λ n is. absent (suc n) is)
       ]) refl
 
-  -- where no two are the same, the one that is seen as b is the first that passes
-  module _ (same : A → A → Bool) (is_same : (x y : A) → seen x ≡ seen y → same x y ≡ true) where
-    pub only_is : (xs : List A) → IsDistinct same xs → (n : ℕ) → slice_get (map seen xs) n ≡ Some b → n ≡ position_or_len test xs
+  -- where no two are the same, b is the first that passes
+  module _ (same : A → A → Bool) (is_same : (x y : A) → x ≡ y → same x y ≡ true) where
+    pub only_is : (xs : List A) → IsDistinct same xs → (n : ℕ) → slice_get xs n ≡ Some b → n ≡ position_or_len test xs
     only_is [] apart n is = absurd cc
     only_is (x ∷ xs) apart zero is =
-        ap (λ (t : Bool). cond (not t) (1 + prefix_len (λ (y : A). not (test y)) xs) 0) (sym (holds x (sym (let e : Some (seen x) ≡ Some b = is in cc))))
+        ap (λ (t : Bool). cond (not t) (1 + prefix_len (λ (y : A). not (test y)) xs) 0) (sym (holds x (sym (let e : Some x ≡ Some b = is in cc))))
     only_is (x ∷ xs) apart (suc n) is =
-        let it = at_map seen xs n b is in
         let other : test x ≡ true → ⊥ = λ e.
-        (let f : same x it.0 ≡ false = all_at (λ (y : A). same x y ≡ false) xs n it.0 (IsDistinct-head same x xs apart) it.1 in
-        let t : same x it.0 ≡ true = is_same x it.0 (sym (told x e) ∙ sym it.2) in
+        (let f : same x b ≡ false = all_at (λ (y : A). same x y ≡ false) xs n b (IsDistinct-head same x xs apart) is in
+        let t : same x b ≡ true = is_same x b (sym (told x e)) in
         let no : true ≡ false = sym t ∙ f in cc) in
         (elim (test x) as (λ (t : Bool). test x ≡ t → suc n ≡ cond (not t) (1 + prefix_len (λ (y : A). not (test y)) xs) 0) [
           | true ↦ λ e. absurd (other e)
           | false ↦ λ e. (let h : n ≡ position_or_len test xs = only_is xs (IsDistinct-tail same x xs apart) n is in omega (arith, h))
         ]) refl
 
-    pub place_is : (xs : List A) → IsDistinct same xs → (n : ℕ) → (position test xs ≡ Some n) ↔ (slice_get (map seen xs) n ≡ Some b)
+    pub place_is : (xs : List A) → IsDistinct same xs → (n : ℕ) → (position test xs ≡ Some n) ↔ (slice_get xs n ≡ Some b)
     place_is xs apart n = (
       λ e. (let h = is_place (position_or_len test xs) (length xs) n e in first_is xs n (sym h.0) (omega (arith, h.0, h.1))),
-      λ e. (let it = at_map seen xs n b e in
-          let at : n ≡ position_or_len test xs = only_is xs apart n e in
-          let lt : n < length xs = slice_get_within xs n it.0 it.1 in
+      λ e. (let at : n ≡ position_or_len test xs = only_is xs apart n e in
+          let lt : n < length xs = slice_get_within xs n b e in
           at_place (position_or_len test xs) (length xs) (omega (arith, at, lt)) ∙ ap (λ (k : ℕ). let o : Option ℕ = Some k in o) (sym at)),
     )

@@ -1,3 +1,4 @@
+pub mod Kept
 pub mod Key
 pub mod Numbered
 pub mod RowKeys

@@ -85,7 +85,7 @@ pub fn key_of(
     ensures { IfOk result (λ key.
         option_map (λ parts. parts.items) key ≡ key_of columns.entry.now row.now) }
 {
-    let mut parts = Vec::new(alloc);
+    let mut parts = Vec::with_capacity(alloc, columns.len())?;
     while let [column, rest @ ..] = columns {
         let Some(part) = part_at(alloc, row, *column)? else {
             return Ok(None);
@@ -96,7 +96,11 @@ pub fn key_of(
     Ok(Some(parts))
 }
 
-fn part_at(alloc: Global, row: &[Value], column: usize) -> Result<Option<Part>, AllocError>
+pub(crate) fn part_at(
+    alloc: Global,
+    row: &[Value],
+    column: usize,
+) -> Result<Option<Part>, AllocError>
     ensures { IfOk result (λ part. part ≡ option_and_then part_of (slice_get row.now column)) }
 {
     match row.get(column) {

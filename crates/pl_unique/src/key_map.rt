@@ -1,14 +1,14 @@
 //! Keys at places, and the undoing of changes.
 
 ghost use Rattle.std.specs.Prelude.{◌≡◌, ◌<◌, ◌≤◌, ◌∷◌, ◌++◌, ◌↔◌, ℕ, [], Some, length};
-ghost use Rattle.std.specs.Prelude.{option_map, slice_get, slice_set, IfOk, OnOk, OnErr};
+ghost use Rattle.std.specs.Prelude.{slice_get, slice_set, IfOk, OnOk, OnErr};
 ghost use Rattle.std.specs.Option.{ForSome};
 ghost use Rattle.pl_history.specs.History.{back, changed, settled};
 ghost use Rattle.pl_unique.specs.Key.{IsFree, IsFreeBeside};
 ghost use Rattle.pl_unique.specs.Numbered.{known};
 
-use crate::Part;
 use crate::known::Keys;
+use crate::{KeyParts, Part};
 use pl_history::Pairs;
 use std::alloc::{AllocError, Global};
 use std::marker::Model;
@@ -73,10 +73,10 @@ impl KeyMap {
     }
 
     /// A place more, behind the others, with this key or none.
-    pub fn push(&mut self, key: Option<Vec<Part>>) -> Result<(), AllocError>
-        requires free { ForSome key (λ k. IsFree k.items self.old.current) }
+    pub fn push(&mut self, key: Option<KeyParts>) -> Result<(), AllocError>
+        requires free { ForSome key (λ k. IsFree k self.old.current) }
         ensures ok { OnOk result (self.new
-            ≡ changed (self.old.current ++ option_map (λ k. k.items) key ∷ []) self.old) }
+            ≡ changed (self.old.current ++ key ∷ []) self.old) }
         ensures err { OnErr result (self.new ≡ self.old) }
     {
         let number = number_for(&mut self.keys, &mut self.numbers, key)?;
@@ -85,11 +85,11 @@ impl KeyMap {
     }
 
     /// Gives the place another key, or none.
-    pub fn set(&mut self, at: usize, key: Option<Vec<Part>>) -> Result<(), AllocError>
+    pub fn set(&mut self, at: usize, key: Option<KeyParts>) -> Result<(), AllocError>
         requires there { at < length self.old.current }
-        requires free { ForSome key (λ k. IsFreeBeside at k.items self.old.current) }
+        requires free { ForSome key (λ k. IsFreeBeside at k self.old.current) }
         ensures ok { OnOk result (self.new
-            ≡ changed (slice_set self.old.current at (option_map (λ k. k.items) key)) self.old) }
+            ≡ changed (slice_set self.old.current at key) self.old) }
         ensures err { OnErr result (self.new ≡ self.old) }
     {
         let number = number_for(&mut self.keys, &mut self.numbers, key)?;
@@ -116,7 +116,7 @@ impl KeyMap {
 fn number_for(
     keys: &mut Keys,
     numbers: &mut Pairs,
-    key: Option<Vec<Part>>,
+    key: Option<KeyParts>,
 ) -> Result<Option<usize>, AllocError>
     requires { length keys.old ≤ numbers.old.count }
     ensures numbers { numbers.new.numbers ≡ numbers.old.numbers }
@@ -124,7 +124,7 @@ fn number_for(
     ensures more { length keys.old ≤ length keys.new }
     ensures kept { (n : ℕ) → n < length keys.old → slice_get keys.new n ≡ slice_get keys.old n }
     ensures within { IfOk result (λ number. ForSome number (λ n. n < length keys.new)) }
-    ensures is { IfOk result (λ number. known keys.new number ≡ option_map (λ k. k.items) key) }
+    ensures is { IfOk result (λ number. known keys.new number ≡ key) }
 {
     let Some(key) = key else {
         return Ok(None);

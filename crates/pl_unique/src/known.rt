@@ -3,7 +3,7 @@
 ghost use Rattle.std.specs.Prelude.{◌≡◌, ◌≢◌, ◌∷◌, ◌++◌, ◌↔◌, ℕ, [], Some, length, slice_get};
 ghost use Rattle.std.specs.Prelude.{IfOk, OnOk, OnErr};
 
-use crate::Part;
+use crate::{KeyParts, Part};
 use indexmap::IndexSet;
 use std::alloc::{AllocError, Global};
 use std::marker::Model;
@@ -11,11 +11,11 @@ use std::marker::Model;
 /// Keys, each once, numbered from 0 in the order in which they came.
 #[derive(Drop)]
 pub(crate) struct Keys {
-    set: IndexSet<Vec<Part>>,
+    set: IndexSet<KeyParts>,
 }
 
 impl Model for Keys {
-    ghost use Rattle.std.specs.Prelude.{List, map};
+    ghost use Rattle.std.specs.Prelude.{List};
     ghost use Rattle.std.specs.Coded.{codes};
     ghost use Rattle.std.specs.List.{IsDistinct};
     ghost use Rattle.pl_unique.specs.declared.key.Part as key;
@@ -26,9 +26,9 @@ impl Model for Keys {
 
     ghost coded = { Prim.hlevel (codes, part.the_row.coded) };
 
-    ghost view = { λ k. map (λ v. v.items) k.set.keys };
+    ghost view = { λ k. k.set.keys };
 
-    ghost invariant = { λ k. IsDistinct (λ v w. same_key v.items w.items) k.set.keys };
+    ghost invariant = { λ k. IsDistinct same_key k.set.keys };
 }
 
 impl Keys {
@@ -48,10 +48,10 @@ impl Keys {
     }
 
     /// Adds a key that isn't there, and answers its number.
-    pub(crate) fn add(&mut self, key: Vec<Part>) -> Result<usize, AllocError>
-        requires absent { (n : ℕ) → slice_get self.old n ≢ Some key.items }
+    pub(crate) fn add(&mut self, key: KeyParts) -> Result<usize, AllocError>
+        requires absent { (n : ℕ) → slice_get self.old n ≢ Some key }
         ensures number { IfOk result (λ n. n ≡ length self.old) }
-        ensures ok { OnOk result (self.new ≡ self.old ++ key.items ∷ []) }
+        ensures ok { OnOk result (self.new ≡ self.old ++ key ∷ []) }
         ensures err { OnErr result (self.new ≡ self.old) }
     {
         let number = self.set.len();

@@ -1,7 +1,7 @@
 //! The keys of a table, each of which changes as the rows do.
 
 ghost use Rattle.std.specs.Prelude.{◌≡◌, ◌≤◌, ◌<◌, ◌≢◌, Some, None, Err, length, map};
-ghost use Rattle.std.specs.Prelude.{option_map, slice_get, IfOk, IsSome, OnOk, OnErr};
+ghost use Rattle.std.specs.Prelude.{slice_get, IfOk, IsSome, OnOk, OnErr};
 ghost use Rattle.std.specs.List.{AllByRecursion};
 ghost use Rattle.std.specs.Option.{ForSome, option_copied};
 ghost use Rattle.pl_history.specs.History.{changed};
@@ -9,7 +9,8 @@ ghost use Rattle.pl_unique.specs.RowKeys.{changed_key, columns_of, key_given, pa
 ghost use Rattle.pl_unique.specs.RowKeys.{settled_key, undone_key, with_key, HasPlace, IsFreeBut};
 ghost use Rattle.pl_unique.specs.RowKeys.{IsNew, IsTaken, IsTakenIn, KeyIsFree};
 
-use crate::{KeyMap, Part, key_of};
+use crate::key_parts::parts_of_row;
+use crate::{KeyMap, KeyParts};
 use pl_base::{List, Value};
 use std::alloc::{AllocError, Global};
 
@@ -132,23 +133,22 @@ fn parts_given(
     alloc: Global,
     columns: &[usize],
     row: Option<&[Value]>,
-) -> Result<Option<Vec<Part>>, AllocError>
-    ensures { IfOk result (λ parts. option_map (λ p. p.items) parts
-        ≡ key_given columns.now (option_copied row.entry)) }
+) -> Result<Option<KeyParts>, AllocError>
+    ensures { IfOk result (λ parts. parts ≡ key_given columns.now (option_copied row.entry)) }
 {
     match row {
         None => Ok(None),
-        Some(row) => key_of(alloc, columns, row),
+        Some(row) => parts_of_row(alloc, columns, row),
     }
 }
 
 // The place that has the key, where it isn't this one.
-fn holder(keys: &KeyMap, parts: &Option<Vec<Part>>, place: Option<usize>) -> Option<usize>
+fn holder(keys: &KeyMap, parts: &Option<KeyParts>, place: Option<usize>) -> Option<usize>
     ensures none { result ≡ None
-        → ForSome parts.now (λ p. IsFreeBut place p.items keys.now.current) }
+        → ForSome parts.now (λ p. IsFreeBut place p keys.now.current) }
     ensures some { (at : _) → result ≡ Some at → place ≢ Some at }
     ensures has { (at : _) → result ≡ Some at
-        → slice_get keys.now.current at ≡ Some (option_map (λ p. p.items) parts.now) }
+        → slice_get keys.now.current at ≡ Some parts.now }
     ensures given { (at : _) → result ≡ Some at → IsSome parts.now }
 {
     let Some(parts) = parts else {
@@ -161,11 +161,11 @@ fn holder(keys: &KeyMap, parts: &Option<Vec<Part>>, place: Option<usize>) -> Opt
 }
 
 // Puts the key at the place, or behind the others.
-fn put(keys: &mut KeyMap, place: Option<usize>, parts: Option<Vec<Part>>) -> Result<(), AllocError>
+fn put(keys: &mut KeyMap, place: Option<usize>, parts: Option<KeyParts>) -> Result<(), AllocError>
     requires there { ForSome place (λ at. at < length keys.old.current) }
-    requires free { ForSome parts (λ p. IsFreeBut place p.items keys.old.current) }
+    requires free { ForSome parts (λ p. IsFreeBut place p keys.old.current) }
     ensures ok { OnOk result (keys.new
-        ≡ changed (placed place (option_map (λ p. p.items) parts) keys.old.current) keys.old) }
+        ≡ changed (placed place parts keys.old.current) keys.old) }
     ensures err { OnErr result (keys.new ≡ keys.old) }
 {
     match place {

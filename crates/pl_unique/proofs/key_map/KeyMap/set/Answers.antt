@@ -1,6 +1,5 @@
 use Rattle.std.proofs.Common.{◌≡◌, ◌<◌, ◌∙◌, Option, List, sym, ap, ℕ, length, arith}
 use Rattle.std.specs.List.{slice_get, slice_set}
-use Rattle.std.specs.Option.{option_map}
 use Rattle.pl_history.specs.History.{History, changed, seen_as}
 use Rattle.pl_history.specs.Pairs.{Paired}
 use Rattle.pl_unique.specs.declared.key.Part.{Part}
@@ -23,7 +22,7 @@ pub set-requires-clause-free : goal.set-requires-clause-free
 set-requires-clause-free c n is at has =
     let keys = c.self.inside.keys in
     let numbers = c.self.inside.numbers.numbers.current in
-    stands keys c.number_for.new.keys c.number_for.ensures.more c.number_for.ensures.kept (λ k. k.items) (λ p. p ≡ c.args.at) numbers c.args.key c.in_ok-number.number c.self.invariant.1.0 c.in_ok-number.ensures.within c.in_ok-number.ensures.is
+    stands keys c.number_for.new.keys c.number_for.ensures.more c.number_for.ensures.kept (λ p. p ≡ c.args.at) numbers c.args.key c.in_ok-number.number c.self.invariant.1.0 c.in_ok-number.ensures.within c.in_ok-number.ensures.is
     (λ k e p h. c.requires.free k e p (ap (λ (v : View). slice_get v.current p) (sym c.self.view_is) ∙ h)) n is at
     (ap (λ (g : History Numbers). slice_get g.current at) (sym c.number_for.ensures.numbers) ∙ has)
 
@@ -35,13 +34,13 @@ invariant_of-self c =
 pub invariant_of-self-2 : goal.invariant_of-self-2
 invariant_of-self-2 c =
     let h = c.self.inside.numbers.numbers in
-    (omega (arith, c.number_for.ensures.room, c.set.ensures.count), set_known c.self.inside.keys c.number_for.new.keys c.number_for.ensures.more c.number_for.ensures.kept h c.number_for.new.numbers.numbers c.number_for.ensures.numbers c.self.invariant.1 c.in_ok-number.number (option_map (λ k. k.items) c.args.key) c.in_ok-number.ensures.is c.set.new.self.numbers c.args.at c.in_ok-number.ensures.within c.in_ok-set.ensures.ok)
+    (omega (arith, c.number_for.ensures.room, c.set.ensures.count), set_known c.self.inside.keys c.number_for.new.keys c.number_for.ensures.more c.number_for.ensures.kept h c.number_for.new.numbers.numbers c.number_for.ensures.numbers c.self.invariant.1 c.in_ok-number.number c.args.key c.in_ok-number.ensures.is c.set.new.self.numbers c.args.at c.in_ok-number.ensures.within c.in_ok-set.ensures.ok)
 
 pub returns-clause-ok : goal.returns-clause-ok
 returns-clause-ok c =
     let h = c.self.inside.numbers.numbers in
-    was_set c.self.inside.keys c.number_for.new.keys c.number_for.ensures.more c.number_for.ensures.kept h c.number_for.new.numbers.numbers c.number_for.ensures.numbers c.self.invariant.1 c.in_ok-number.number (option_map (λ k. k.items) c.args.key) c.in_ok-number.ensures.is c.set.new.self.numbers c.args.at c.in_ok-set.ensures.ok
-    ∙ ap (λ (v : View). changed (slice_set v.current c.args.at (option_map (λ k. k.items) c.args.key)) v) c.self.view_is
+    was_set c.self.inside.keys c.number_for.new.keys c.number_for.ensures.more c.number_for.ensures.kept h c.number_for.new.numbers.numbers c.number_for.ensures.numbers c.self.invariant.1 c.in_ok-number.number c.args.key c.in_ok-number.ensures.is c.set.new.self.numbers c.args.at c.in_ok-set.ensures.ok
+    ∙ ap (λ (v : View). changed (slice_set v.current c.args.at c.args.key) v) c.self.view_is
 
 pub returns-in_err-number-clause-err : goal.returns-in_err-number-clause-err
 returns-in_err-number-clause-err c =
