@@ -10,7 +10,7 @@ ghost use Rattle.pl_tables.specs.Undo.{at_rest, content, kept, laid, with_gap, w
 ghost use Rattle.pl_tables.specs.Undo.{with_slot, IsGap, IsInOrder, MayLay};
 
 use crate::Slot;
-use crate::slots::{place_of, pop_slot, push_slot, restore, seek, swap_row};
+use crate::slots::{fitted, fitted_if, place_of, pop_slot, push_slot, restore, seek, swap_row};
 use pl_base::Cells;
 use std::alloc::{AllocError, Global};
 use std::marker::Model;
@@ -132,11 +132,12 @@ impl Heap {
     }
 
     /// Adds a row behind the others, where one can be added.
-    pub(crate) fn append(&mut self, row: Cells) -> Result<(), AllocError>
+    pub(crate) fn append(&mut self, alloc: Global, row: Cells) -> Result<(), AllocError>
         requires room { is_full (content [] self.old.current) ≡ false }
         ensures ok { OnOk result (self.new ≡ changed (with_slot row self.old.current) self.old) }
         ensures err { OnErr result (self.new ≡ self.old) }
     {
+        let row = fitted(alloc, row)?;
         self.changes.reserve(1)?;
         self.slots.reserve(1)?;
         let id = self.next;
@@ -148,12 +149,18 @@ impl Heap {
     }
 
     /// Gives the slot at this place, which has a row, another one or none.
-    pub(crate) fn put(&mut self, at: usize, row: Option<Cells>) -> Result<(), AllocError>
+    pub(crate) fn put(
+        &mut self,
+        alloc: Global,
+        at: usize,
+        row: Option<Cells>,
+    ) -> Result<(), AllocError>
         requires there { IsSome (row_of self.old.current.slots at) }
         ensures ok { OnOk result (self.new
             ≡ changed (with_row_at at row self.old.current) self.old) }
         ensures err { OnErr result (self.new ≡ self.old) }
     {
+        let row = fitted_if(alloc, row)?;
         self.changes.reserve(1)?;
         let count = rows_after(self.count, &row);
         if let Some(old) = swap_row(&mut self.slots, at, row) {

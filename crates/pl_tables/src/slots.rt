@@ -6,8 +6,8 @@ ghost use Rattle.pl_tables.specs.Rows.{row_at};
 ghost use Rattle.pl_tables.specs.Undo.{IsGap};
 ghost use Rattle.pl_tables.specs.Slots.{before, id_at, live, row_of, with_row, IsRising};
 
-use pl_base::Cells;
-use std::alloc::AllocError;
+use pl_base::{Cells, List};
+use std::alloc::{AllocError, Global};
 use std::mem;
 
 /// A row, or where one was.
@@ -16,6 +16,25 @@ pub struct Slot {
     pub id: u64,
     /// None where the row was removed.
     pub row: Option<Cells>,
+}
+
+/// The row in just the room that its values take. A list that grew by pushes has room for more.
+pub(crate) fn fitted(alloc: Global, row: Cells) -> Result<Cells, AllocError>
+    ensures { IfOk result (λ made. made ≡ row) }
+{
+    let mut made = List::from_vec(Vec::with_capacity(alloc, row.len())?);
+    made.append(row)?;
+    Ok(made)
+}
+
+/// The same, if there is a row.
+pub(crate) fn fitted_if(alloc: Global, row: Option<Cells>) -> Result<Option<Cells>, AllocError>
+    ensures { IfOk result (λ made. made ≡ row) }
+{
+    match row {
+        Some(row) => Ok(Some(fitted(alloc, row)?)),
+        None => Ok(None),
+    }
 }
 
 /// The place of the slot of this id, or else the one at which it would stand.

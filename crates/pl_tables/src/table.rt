@@ -160,7 +160,7 @@ impl Table {
             Err(fail) => Err(refusal(&self.heap, fail)),
             Ok(()) => {
                 let id = self.heap.next();
-                match self.heap.append(row) {
+                match self.heap.append(self.alloc, row) {
                     Ok(()) => Ok(id),
                     Err(_) => {
                         undo_keys(&mut self.keys);
@@ -187,7 +187,7 @@ impl Table {
         };
         match change_keys(self.alloc, &mut self.keys, Some(at), Some(row.as_slice())) {
             Err(fail) => Err(refusal(&self.heap, fail)),
-            Ok(()) => match self.heap.put(at, Some(row)) {
+            Ok(()) => match self.heap.put(self.alloc, at, Some(row)) {
                 Ok(()) => Ok(()),
                 Err(_) => {
                     undo_keys(&mut self.keys);
@@ -245,7 +245,7 @@ impl Table {
         };
         match change_keys(self.alloc, &mut self.keys, Some(at), None) {
             Err(_) => Err(AllocError),
-            Ok(()) => match self.heap.put(at, None) {
+            Ok(()) => match self.heap.put(self.alloc, at, None) {
                 Ok(()) => Ok(()),
                 Err(fail) => {
                     undo_keys(&mut self.keys);

@@ -1,5 +1,6 @@
-use Rattle.std.proofs.Common.{◌≡◌, ◌≤◌, ◌++◌, ◌∷◌, [], ◌∙◌, Some, List, sym, ap, subst, length, arith}
+use Rattle.std.proofs.Common.{◌≡◌, ◌≤◌, ◌++◌, ◌∷◌, [], ◌∙◌, Option, Some, List, sym, ap, subst, length, arith}
 use Rattle.std.specs.Prelude.{IsSome}
+use Rattle.pl_base.specs.declared.value.Value.{Value}
 use Rattle.pl_history.specs.History.{History, changed, history}
 use Rattle.pl_tables.specs.declared.slots.Slot.{Slot}
 use Rattle.pl_tables.specs.declared.heap.Change.{Change}
@@ -32,11 +33,11 @@ invariant_of-self-in-Some c =
     let old = c.in-Some.old in
     let has : row_of ss at ≡ Some old = sym c.swap_row.ensures.row ∙ c.in-Some.is in
     let is : c.push_reserved.new.self.items ≡ cs ++ (Changed at old) ∷ [] = c.push_reserved.ensures.items ∙ ap (λ (ds : List Change). ds ++ (Changed at old) ∷ []) c.reserve.ensures.items in
-    let undone : undo_one (Changed at old) (kept c.swap_row.new.slots.items next) ≡ kept ss next = ap (λ (xs : List Slot). undo_one (Changed at old) (kept xs next)) c.swap_row.ensures.slots ∙ back_changed ss at c.args.row old next has in
-    let n : length (live c.swap_row.new.slots.items) ≡ length (live (with_row ss at c.args.row)) = ap (λ (xs : List Slot). length (live xs)) c.swap_row.ensures.slots in
-    let m = count_put ss at old c.args.row has in
+    let undone : undo_one (Changed at old) (kept c.swap_row.new.slots.items next) ≡ kept ss next = ap (λ (xs : List Slot). undo_one (Changed at old) (kept xs next)) c.swap_row.ensures.slots ∙ back_changed ss at c.in_ok-row.row old next has in
+    let n : length (live c.swap_row.new.slots.items) ≡ length (live (with_row ss at c.in_ok-row.row)) = ap (λ (xs : List Slot). length (live xs)) c.swap_row.ensures.slots in
+    let m = count_put ss at old c.in_ok-row.row has in
     let p : 1 ≤ length (live ss) = some_live ss at (subst (λ (h : History Kept). IsSome (row_of h.current.slots at)) (sym c.self.view_is) c.requires.there) in (
-      subst (λ (xs : List Slot). Rising 0 xs next) (sym c.swap_row.ensures.slots) (rising_with 0 ss next at c.args.row c.self.invariant.0),
+      subst (λ (xs : List Slot). Rising 0 xs next) (sym c.swap_row.ensures.slots) (rising_with 0 ss next at c.in_ok-row.row c.self.invariant.0),
       ordered_on cs c.push_reserved.new.self.items (Changed at old) (kept ss next) (kept c.swap_row.new.slots.items next) is undone c.self.invariant.1 c.self.invariant.0,
       omega (arith, n, m, p, c.self.invariant.2, c.rows_after-count.ensures),
     )
@@ -56,10 +57,11 @@ returns-in-Some-clause-ok c =
     let old = c.in-Some.old in
     let has : row_of ss at ≡ Some old = sym c.swap_row.ensures.row ∙ c.in-Some.is in
     let is : c.push_reserved.new.self.items ≡ cs ++ (Changed at old) ∷ [] = c.push_reserved.ensures.items ∙ ap (λ (ds : List Change). ds ++ (Changed at old) ∷ []) c.reserve.ensures.items in
-    let undone : undo_one (Changed at old) (kept c.swap_row.new.slots.items next) ≡ kept ss next = ap (λ (xs : List Slot). undo_one (Changed at old) (kept xs next)) c.swap_row.ensures.slots ∙ back_changed ss at c.args.row old next has in
+    let undone : undo_one (Changed at old) (kept c.swap_row.new.slots.items next) ≡ kept ss next = ap (λ (xs : List Slot). undo_one (Changed at old) (kept xs next)) c.swap_row.ensures.slots ∙ back_changed ss at c.in_ok-row.row old next has in
     gone_on cs c.push_reserved.new.self.items (Changed at old) (kept ss next) (kept c.swap_row.new.slots.items next) is undone
     ∙ (ap (λ (xs : List Slot). changed (kept xs next) (history undo_one cs (kept ss next))) c.swap_row.ensures.slots
-    ∙ ap (λ (h : History Kept). changed (with_row_at at c.args.row h.current) h) c.self.view_is)
+    ∙ (ap (λ (h : History Kept). changed (with_row_at at c.in_ok-row.row h.current) h) c.self.view_is
+    ∙ ap (λ (row : Option (List Value)). changed (with_row_at at row c.args.self.now.current) c.args.self.now) c.in_ok-row.ensures))
 
 pub returns-in_default-clause-ok : goal.returns-in_default-clause-ok
 returns-in_default-clause-ok c =
