@@ -1,0 +1,4 @@
+pub mod Equations
+pub mod Named
+pub mod Entered
+pub mod Options
