@@ -3,6 +3,7 @@
 ghost use Rattle.std.specs.Prelude.{◌≡◌};
 ghost use Rattle.pl_catalog.specs.Objects.{is_called, name_of, which_of};
 
+use crate::RoutineBody;
 use pl_base::{Boxed, List, Name, Txt, Ty};
 use pl_resolved::RExpr;
 use pl_tree::{Param, ResultType, RoutineKind};
@@ -69,6 +70,8 @@ pub struct Routine {
     /// The command that made it.
     pub text: Txt,
     pub heading: Heading,
+    /// What a call of it does.
+    pub body: RoutineBody,
 }
 
 /// What a caller has to know of a routine.

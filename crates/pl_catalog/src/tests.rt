@@ -1,9 +1,11 @@
 //! Each call once.
 
 use crate::{
-    Catalog, CatalogFail, Events, Heading, Object, Objects, Routine, TableDef, TriggerDef, Which,
+    Catalog, CatalogFail, Events, Heading, Object, Objects, Routine, RoutineBody, TableDef,
+    TriggerDef, Which,
 };
 use pl_base::{List, Name, Txt};
+use pl_bodies::{Block, Body};
 use pl_tree::{ResultType, RoutineKind};
 use std::alloc::{AllocError, Global};
 use std::test::Fail;
@@ -26,7 +28,22 @@ fn routine(alloc: Global, name: Name) -> Result<Object, AllocError> {
             params: List::new(alloc),
             result: ResultType::Absent,
         },
+        body: RoutineBody::new(alloc, empty_body(alloc))?,
     }))
+}
+
+// BEGIN END
+fn empty_body(alloc: Global) -> Body {
+    Body {
+        line: 1,
+        block: Block {
+            label: None,
+            declarations: List::new(alloc),
+            statements: List::new(alloc),
+            handlers: List::new(alloc),
+            end_label: None,
+        },
+    }
 }
 
 fn trigger(alloc: Global, name: Name, table: Name, routine: Name) -> Result<Object, AllocError> {
