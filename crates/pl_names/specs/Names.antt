@@ -5,7 +5,8 @@ use Rattle.pl_base.specs.States.{UNDEFINED_COLUMN, AMBIGUOUS_COLUMN, UNDEFINED_T
 use Rattle.pl_base.specs.States.{INVALID_COLUMN_REFERENCE, UNDEFINED_PARAMETER}
 use Rattle.pl_base.specs.declared.types.Ty.{Ty}
 use Rattle.pl_base.specs.declared.types.Ty.TheVariants.{Row}
-use Rattle.pl_catalog.specs.Objects.{tables_in, table_named}
+use Rattle.pl_catalog.specs.Objects.{routines_in, tables_in, table_named}
+use Rattle.pl_catalog.specs.declared.object.Routine.{Routine}
 use Rattle.pl_catalog.specs.declared.object.TableDef.{TableDef}
 use Rattle.pl_resolved.specs.declared.expression.RExpr.TheVariants.{Place}
 use Rattle.pl_resolved.specs.declared.query.Head.{Head}
@@ -32,6 +33,7 @@ pub record Reach : Type 0 where
 -- all that names are sought in
 pub record Around : Type 0 where
   pub tables : List TableDef
+  pub routines : List Routine
   -- of each block and routine around, the outermost first
   pub frames : List Visible
   pub params : List Ty
@@ -47,6 +49,7 @@ reach l = record { sources = l.sources.now; is_barred = l.is_barred }
 abbrev pub around : Names → Around
 around n = record {
   tables = tables_in n.catalog.now.objects;
+  routines = routines_in n.catalog.now.objects;
   frames = n.scope.now.frames;
   params = n.scope.now.params;
   levels = map reach n.levels.now;
@@ -112,11 +115,6 @@ variables_within x place [] = Nothing
 variables_within x place (frame ∷ inner) =
     nearer (variables_within x (place + length frame.variables) inner)
     (variables_named x place frame.variables)
-
--- how many variables there are, behind so many
-abbrev pub count_on : ℕ → List Visible → ℕ
-count_on n [] = n
-count_on n (frame ∷ inner) = count_on (n + length frame.variables) inner
 
 -- ---- a name
 
@@ -185,10 +183,10 @@ parameter_at column None = Err UNDEFINED_PARAMETER
 parameter_at column (Some ty) =
     Ok (record { row = 0; column = column; ty = ty; is_barred = false })
 
--- counted from 1; a parameter stands behind all variables
+-- counted from 1; the parameters are the first variables
 abbrev pub parameter_means : ℕ → Around → Resolved Meaning
 parameter_means zero a = Err UNDEFINED_PARAMETER
-parameter_means (suc n) a = parameter_at (count_on 0 a.frames + n) (slice_get a.params n)
+parameter_means (suc n) a = parameter_at n (slice_get a.params n)
 
 -- ---- the expression that reads a place; its heading is the name
 

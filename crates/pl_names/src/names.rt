@@ -120,17 +120,6 @@ fn variables_within(name: Name, mut frames: &[Visible]) -> Result<Found, Memory>
     Ok(found)
 }
 
-fn count(mut frames: &[Visible]) -> Result<usize, Memory>
-    ensures { IfOk result (λ count. count ≡ spec.count_on 0 frames.entry.now) }
-{
-    let mut count = 0;
-    while let [frame, rest @ ..] = frames {
-        count = behind(count, frame.variables.len())?;
-        frames = rest;
-    }
-    Ok(count)
-}
-
 // ---- a name
 
 /// What a name without a qualifier means. 42703 where it means nothing, 42702 where it means two
@@ -213,7 +202,8 @@ pub fn qualified_means(qualifier: Name, name: Name, names: &Names<'_>) -> Result
 
 // ---- parameters
 
-/// What `$number` means, counted from 1. 42P02 where there is none.
+/// What `$number` means, counted from 1: the parameters are the first variables. 42P02 where there
+/// is none.
 pub fn parameter_means(number: u16, names: &Names<'_>) -> Result<Meaning, ScopeFail>
     ensures { Gives result (spec.parameter_means number (around names.now)) }
 {
@@ -223,10 +213,9 @@ pub fn parameter_means(number: u16, names: &Names<'_>) -> Result<Meaning, ScopeF
     let Some(ty) = names.scope.params.get(at) else {
         return Err(ScopeFail::State(State::UNDEFINED_PARAMETER));
     };
-    let column = behind(count(names.scope.frames.as_slice())?, at)?;
     Ok(Meaning {
         row: 0,
-        column,
+        column: at,
         ty: *ty,
         is_barred: false,
     })

@@ -32,7 +32,8 @@ pub struct Visible {
     pub variables: List<Seen>,
 }
 
-/// The frames in reach, the outermost first, and the types of `$1`, `$2` and so on.
+/// The frames in reach, the outermost first, and the types of `$1`, `$2` and so on, which are the
+/// first variables of the first frame.
 #[derive(Drop)]
 pub struct Scope {
     pub frames: List<Visible>,

@@ -1,3 +1,4 @@
 pub mod Aggregates
 pub mod Equations
+pub mod InTurn
 pub mod Lifted

@@ -8,6 +8,7 @@ use Rattle.pl_base.specs.declared.types.Ty.{Ty}
 use Rattle.pl_grouping.specs.Reading.{reads_any}
 use Rattle.pl_grouping.specs.Search.{aggregate_place}
 use Rattle.pl_names.specs.Names.{Name, Around, known_types}
+use Rattle.pl_names.specs.Routines.{called}
 use Rattle.pl_resolved.specs.declared.expression.RExpr.{RExpr}
 use Rattle.pl_resolved.specs.declared.expression.RExpr.TheVariants as r
 use Rattle.pl_resolved.specs.declared.query.Aggregate.{Aggregate}
@@ -21,7 +22,6 @@ use Rattle.pl_tree.specs.declared.tree.Pick.{Pick}
 use Rattle.pl_typing.specs.Aggregates.{aggregate_named, aggregated}
 use Rattle.pl_typing.specs.Calls.{no_arguments, argument_with, row_of}
 use Rattle.pl_typing.specs.Cases.{no_arms, operand_type, tree_of, tested, with_arm, cased}
-use Rattle.pl_typing.specs.Functions.{function_called}
 use Rattle.pl_typing.specs.Operators.{run_of, stepped, ended, between}
 use Rattle.pl_typing.specs.Resolved.{Resolved}
 use Rattle.pl_typing.specs.Subqueries.{scalar, exists, in_query}
@@ -178,6 +178,7 @@ collected x head since = λ a made.
 abbrev pub no_aggregates : Around → Around
 no_aggregates a = record {
   tables = a.tables;
+  routines = a.routines;
   frames = a.frames;
   params = a.params;
   levels = a.levels;
@@ -192,13 +193,13 @@ abbrev pub arguments_on : List ArgumentPart → Arguments → Means Arguments
 arguments_on [] done = gives done
 arguments_on (p ∷ ps) done = p >>= (λ x. arguments_on ps (argument_with done x))
 
--- the one named argument belongs to no function that is built in
+-- the one named argument belongs to no function that a name finds
 abbrev pub named_argument : Part → ArgumentPart
 named_argument p = p.means >>= (λ x. step (Err UNDEFINED_FUNCTION))
 
 abbrev pub function_of : Name → List ArgumentPart → Means Typed
 function_of name arguments =
-    arguments_on arguments no_arguments >>= (λ all. step (function_called name all))
+    arguments_on arguments no_arguments >>= (λ all. asks (called name all))
 
 abbrev pub aggregate_of : Aggregate → Name → List ArgumentPart → Means Typed
 aggregate_of kind name arguments =

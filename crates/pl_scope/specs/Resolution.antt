@@ -2,7 +2,7 @@
 use Rattle.std.specs.Prelude.{ℕ, nat_lt, ◌^◌, List, [], map, Ok, Err, Bool, false, if◌then◌else◌}
 use Rattle.std.specs.Option.{option_map}
 use Rattle.pl_base.specs.declared.operator.Operator.TheVariants as operator
-use Rattle.pl_catalog.specs.Objects.{tables_in}
+use Rattle.pl_catalog.specs.Objects.{routines_in, tables_in}
 use Rattle.pl_catalog.specs.declared.object.Object.{Object}
 use Rattle.pl_names.specs.Names.{Around, name_of, qualified_of, parameter_of}
 use Rattle.pl_names.specs.declared.scope.Scope.{Scope}
@@ -258,6 +258,7 @@ query_view q = record {
 abbrev pub standing : List Object → Scope → Around
 standing catalogue scope = record {
   tables = tables_in catalogue;
+  routines = routines_in catalogue;
   frames = scope.frames;
   params = scope.params;
   levels = [];

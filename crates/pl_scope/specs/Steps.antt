@@ -6,6 +6,7 @@ use Rattle.std.specs.Prelude.{ℕ, zero, suc, ◌+◌, ◌&&◌, ◌||◌, not, 
 use Rattle.pl_base.specs.States.{INVALID_COLUMN_REFERENCE, AMBIGUOUS_COLUMN, GROUPING_ERROR}
 use Rattle.pl_base.specs.States.{UNDEFINED_OBJECT, SYNTAX_ERROR}
 use Rattle.pl_base.specs.declared.types.Ty.{Ty}
+use Rattle.pl_catalog.specs.declared.object.Routine.{Routine}
 use Rattle.pl_catalog.specs.declared.object.TableDef.{TableDef}
 use Rattle.pl_grouping.specs.Equality.{same}
 use Rattle.pl_grouping.specs.Reading.{reads, reads_any}
@@ -59,9 +60,11 @@ first_row a = a.next_row + 1
 abbrev pub level : List Source → Bool → Reach
 level sources is_barred = record { sources = sources; is_barred = is_barred }
 
-abbrev pub around_of : List TableDef → List Visible → List Ty → List Reach → ℕ → ℕ → Bool → Around
-around_of tables frames params levels next_row aggregates_row may_aggregate = record {
+abbrev pub around_of : List TableDef → List Routine → List Visible → List Ty → List Reach → ℕ → ℕ
+    → Bool → Around
+around_of tables routines frames params levels next_row aggregates_row may_aggregate = record {
   tables = tables;
+  routines = routines;
   frames = frames;
   params = params;
   levels = levels;
@@ -72,8 +75,8 @@ around_of tables frames params levels next_row aggregates_row may_aggregate = re
 
 abbrev pub inside_of : Around → List Source → Bool → ℕ → Bool → Around
 inside_of a sources is_barred next_row may_aggregate =
-    around_of a.tables a.frames a.params (a.levels ++ level sources is_barred ∷ []) next_row
-    a.next_row may_aggregate
+    around_of a.tables a.routines a.frames a.params (a.levels ++ level sources is_barred ∷ [])
+    next_row a.next_row may_aggregate
 
 -- in the select list, HAVING and ORDER BY
 abbrev pub grouped_in : List Source → Around → Around

@@ -1,7 +1,7 @@
 //! What names mean inside of a query, and joins.
 
 ghost use Rattle.std.specs.Prelude.{◌≡◌, ◌+◌, ◌<◌, ◌^◌, [], ◌∷◌, ◌++◌, map, IfOk};
-ghost use Rattle.pl_catalog.specs.Objects.{tables_in};
+ghost use Rattle.pl_catalog.specs.Objects.{routines_in, tables_in};
 ghost use Rattle.pl_names.specs.Names.{around, reach};
 ghost use Rattle.pl_scope.specs.Expressions.{no_aggregates};
 ghost use Rattle.pl_scope.specs.Steps as spec;
@@ -48,8 +48,9 @@ pub fn inside<'a>(
     aggregates_row: usize,
     may_aggregate: bool,
 ) -> Names<'a>
-    ensures { around result ≡ spec.around_of (tables_in catalog.now.objects) scope.now.frames
-        scope.now.params (map reach levels.now) next_row aggregates_row may_aggregate }
+    ensures { around result ≡ spec.around_of (tables_in catalog.now.objects)
+        (routines_in catalog.now.objects) scope.now.frames scope.now.params (map reach levels.now)
+        next_row aggregates_row may_aggregate }
 {
     Names {
         catalog,

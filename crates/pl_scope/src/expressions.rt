@@ -21,13 +21,13 @@ use crate::collecting::{collect, count_rows};
 use crate::entering::without_aggregates;
 use crate::queries::query;
 use pl_base::{Boxed, List, Name, Operator, State, Ty};
-use pl_names::{Names, named, parameter, qualified};
+use pl_names::{Names, called, named, parameter, qualified};
 use pl_resolved::RExpr;
 use pl_tree::{Argument, Arm, Expr, Factor, Term};
 use pl_typing::{
     Arguments, Arms, Listed, Run, ScopeFail, Typed, aggregate_named, asked, between, compared,
-    distinct, exists, function_called, in_list, in_query, like, literal, negated, null_if,
-    operand_type, picked, row, scalar, signed, tested, tree_of, truth, truth_of,
+    distinct, exists, in_list, in_query, like, literal, negated, null_if, operand_type, picked,
+    row, scalar, signed, tested, tree_of, truth, truth_of,
 };
 use std::alloc::Global;
 
@@ -230,7 +230,7 @@ pub(crate) fn call(
     match aggregate_named(&name) {
         None => {
             let all = arguments_on(alloc, arguments, names, made)?;
-            function_called(alloc, name, all)
+            called(alloc, name, all, names)
         }
         Some(kind) => {
             // The queries in the arguments are those from this number on.

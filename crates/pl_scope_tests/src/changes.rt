@@ -2,7 +2,7 @@
 //! is the one that a PostgreSQL server gives, unless two failures stand in a change.
 
 use crate::places::{is, items_of, state};
-use crate::tables::{catalog_with_defaults, no_scope};
+use crate::tables::{catalog_with_defaults, catalog_with_routines, no_scope};
 use crate::trees::{Words, write_tree};
 use pl_base::{Boxed, Memory};
 use pl_catalog::Catalog;
@@ -79,6 +79,22 @@ INSERT INTO n SELECT a, b FROM t  ->  42601
 INSERT INTO t (a, b) SELECT c FROM n  ->  42601
 INSERT INTO t AS x (a) VALUES (1) RETURNING t.a  ->  42P01
 INSERT INTO t (a) VALUES (1) RETURNING max(a)  ->  42803
+"#;
+
+/// Changes that call routines.
+const CALLS: &str = r#"
+INSERT INTO t (a, b, s) VALUES (one(1), one(2), said('x'))  ->  INSERT ((one 1) (one 2)::bigint (said 'x') NULL)
+INSERT INTO t (s) VALUES (one(1)) RETURNING one(a)  ->  INSERT (NULL NULL (one 1)::text NULL) RETURNING (one 2.0)
+INSERT INTO t (a) VALUES (one(1)), (does(1))  ->  42809
+INSERT INTO t (a) VALUES (holds(true))  ->  42804
+INSERT INTO t (a) VALUES (nothing(1))  ->  42804
+INSERT INTO t (a) VALUES (one(true))  ->  42883
+INSERT INTO t (a) SELECT one(c) FROM n  ->  (one 2.0) | INSERT #0 (2.0 NULL NULL NULL)
+UPDATE t SET a = one(a), b = one(a) WHERE holds(f)  ->  UPDATE 0=(one 2.0) 1=(one 2.0)::bigint WHERE (holds 2.3)
+UPDATE t SET a = does(a)  ->  42809
+UPDATE t SET a = 1 WHERE one(a)  ->  42804
+DELETE FROM t WHERE said(s) = 'x' RETURNING big(a)  ->  DELETE WHERE ((said 2.2) = 'x') RETURNING (big 2.0::bigint)
+DELETE FROM t WHERE absent(a)  ->  42883
 "#;
 
 fn write_where(out: &mut Words, condition: &Option<Boxed<RExpr>>) {
@@ -207,8 +223,12 @@ fn is_told(alloc: Global, catalog: &Catalog, line: &str) -> bool {
 }
 
 // The first line whose change is another.
-fn other(alloc: Global, table: &'static str) -> Option<&'static str> {
-    let Ok(catalog) = catalog_with_defaults(alloc) else {
+fn other(
+    alloc: Global,
+    catalog: Result<Catalog, Memory>,
+    table: &'static str,
+) -> Option<&'static str> {
+    let Ok(catalog) = catalog else {
         return Some("no catalogue");
     };
     for line in table.lines() {
@@ -221,5 +241,12 @@ fn other(alloc: Global, table: &'static str) -> Option<&'static str> {
 
 #[test]
 fn changes_have_a_value_for_each_column(rt: HostRuntime) {
-    assert_eq!(rt; other(rt.alloc(), CHANGES), None);
+    let alloc = rt.alloc();
+    assert_eq!(rt; other(alloc, catalog_with_defaults(alloc), CHANGES), None);
+}
+
+#[test]
+fn changes_call_routines(rt: HostRuntime) {
+    let alloc = rt.alloc();
+    assert_eq!(rt; other(alloc, catalog_with_routines(alloc), CALLS), None);
 }

@@ -1,7 +1,8 @@
 //! Queries against the answers of a PostgreSQL server.
 
+use crate::calls::CALLS;
 use crate::cases::CASES;
-use crate::tables::{catalog, no_scope, state_of};
+use crate::tables::{catalog, catalog_with_routines, no_scope, state_of};
 use pl_base::{Memory, Name, Ty};
 use pl_catalog::Catalog;
 use pl_expr_parse::parse_query;
@@ -83,8 +84,12 @@ fn is_told(alloc: Global, catalog: &Catalog, line: &str) -> bool {
 }
 
 // The first line whose query means something else.
-fn other(alloc: Global, table: &'static str) -> Option<&'static str> {
-    let Ok(catalog) = catalog(alloc) else {
+fn other(
+    alloc: Global,
+    catalog: Result<Catalog, Memory>,
+    table: &'static str,
+) -> Option<&'static str> {
+    let Ok(catalog) = catalog else {
         return Some("no catalogue");
     };
     for line in table.lines() {
@@ -97,5 +102,12 @@ fn other(alloc: Global, table: &'static str) -> Option<&'static str> {
 
 #[test]
 fn queries_mean_what_the_server_says(rt: HostRuntime) {
-    assert_eq!(rt; other(rt.alloc(), CASES), None);
+    let alloc = rt.alloc();
+    assert_eq!(rt; other(alloc, catalog(alloc), CASES), None);
+}
+
+#[test]
+fn calls_mean_what_the_server_says(rt: HostRuntime) {
+    let alloc = rt.alloc();
+    assert_eq!(rt; other(alloc, catalog_with_routines(alloc), CALLS), None);
 }

@@ -3,7 +3,7 @@
 //! each item of its FROM.
 
 use crate::columns::push_head;
-use crate::tables::{catalog, no_scope, state_of, three_blocks};
+use crate::tables::{catalog, catalog_with_routines, no_scope, state_of, three_blocks};
 use crate::trees::{Words, write_tree};
 use pl_base::Memory;
 use pl_catalog::Catalog;
@@ -92,8 +92,8 @@ i.x  ->  0.4 x integer
 i.y  ->  0.5 y text
 i.w  ->  0.0 w integer
 x + 1  ->  (0.4 + 1) ?column? integer
-o.x + $1  ->  (0.2 + 0.6) ?column? bigint
-$1  ->  0.6 ?column? bigint
+o.x + $1  ->  (0.2 + 0.0) ?column? integer
+$1  ->  0.0 ?column? integer
 $2  ->  42P02
 z  ->  42703
 o.w  ->  42703
@@ -113,6 +113,35 @@ CASE WHEN true THEN 1 END::text  ->  (CASE integer WHEN true THEN 1)::text case 
 (SELECT q.x FROM (SELECT 1 AS x) q)  ->  #1 x integer
 (SELECT 1)::text  ->  #0::text text text
 EXISTS (SELECT t.*, t.*, t.*, t.*, t.*, t.*, t.*, t.*, t.*, t.*, t.*, t.*, t.*, t.*, t.*, t.* FROM t)  ->  (EXISTS #0) exists boolean
+"#;
+
+/// Calls of routines. The SQLSTATE of a call that no expression may hold is not the server's.
+const CALLED: &str = r#"
+SELECT nil(), one(1), one('1'), one(NULL)  ->  (nil) (one 1) (one '1'::integer) (one NULL::integer)
+SELECT big(1), big(a), big(b), big('1') FROM t  ->  (big 1::bigint) (big 2.0::bigint) (big 2.1) (big '1'::bigint)
+SELECT said('x'), said(NULL), said(s) FROM t  ->  (said 'x') (said NULL) (said 2.2)
+SELECT mixed(a, a, s, f) FROM t  ->  (mixed 2.0 2.0::bigint 2.2 2.3)
+SELECT mixed('1', '2', 'x', 'true')  ->  (mixed '1'::integer '2'::bigint 'x' 'true'::boolean)
+SELECT big(one(abs(a))) FROM t  ->  (big (one (FUNCTION 2.0))::bigint)
+SELECT one(1) + big(2)  ->  ((one 1) + (big 2::bigint))
+SELECT coalesce(one(1), big(1))  ->  (COALESCE bigint (one 1) (big 1::bigint))
+SELECT nothing(1)  ->  (nothing 1)
+SELECT one((SELECT c FROM n))  ->  3.0 | (one #0)
+SELECT (SELECT one(t.a) FROM n) FROM t  ->  (one 2.0) | #0
+SELECT one(max(a)) FROM t  ->  (one 1.0)
+SELECT one(a), a FROM t GROUP BY one(a), a  ->  (one 2.0) 2.0
+SELECT x.x, one(x.x) FROM big(1) x JOIN one(2) y ON true  ->  42883
+SELECT x.x, big(y.y) FROM big(1) x JOIN one(2) y ON true  ->  2.0 (big 3.0::bigint)
+SELECT fires()  ->  0A000
+SELECT * FROM fires()  ->  0A000
+SELECT fires(1)  ->  42883
+SELECT many(1)  ->  0A000
+SELECT * FROM many(1)  ->  0A000
+SELECT many()  ->  42883
+SELECT * FROM pairs()  ->  0A000
+SELECT passes(1)  ->  0A000
+SELECT passes(z)  ->  42703
+SELECT 1 FROM t WHERE many(1) = z  ->  0A000
 "#;
 
 /// The items of each query.
@@ -206,8 +235,12 @@ fn are_told(alloc: Global, catalog: &Catalog, line: &str) -> bool {
 }
 
 // The first line whose query has other places.
-fn other_places(alloc: Global, table: &'static str) -> Option<&'static str> {
-    let Ok(catalog) = catalog(alloc) else {
+fn other_places(
+    alloc: Global,
+    catalog: Result<Catalog, Memory>,
+    table: &'static str,
+) -> Option<&'static str> {
+    let Ok(catalog) = catalog else {
         return Some("no catalogue");
     };
     for line in table.lines() {
@@ -243,7 +276,17 @@ fn other_variable(alloc: Global, table: &'static str) -> Option<&'static str> {
 
 #[test]
 fn names_become_places(rt: HostRuntime) {
-    assert_eq!(rt; other_places(rt.alloc(), PLACES), None);
+    let alloc = rt.alloc();
+    assert_eq!(rt; other_places(alloc, catalog(alloc), PLACES), None);
+}
+
+#[test]
+fn arguments_are_cast(rt: HostRuntime) {
+    let alloc = rt.alloc();
+    assert_eq!(rt;
+        other_places(alloc, catalog_with_routines(alloc), CALLED),
+        None
+    );
 }
 
 #[test]

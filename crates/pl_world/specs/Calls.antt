@@ -20,7 +20,7 @@ use Rattle.pl_value.specs.Meaning.{Calls as CallsOf}
 use Rattle.pl_value.specs.Reading.{Reading, got, fails}
 use Rattle.pl_world.specs.Conversions.{as_type}
 use Rattle.pl_world.specs.Errors.{Spot, raised}
-use Rattle.pl_world.specs.Running.{Bodies, Runner, body, spot_of}
+use Rattle.pl_world.specs.Running.{Runner, body, spot_of}
 use Rattle.pl_world.specs.Variables.{entering}
 use Rattle.pl_world.specs.World.{Event, Frame, World, Ran, made, and_then, ends}
 use Rattle.pl_world.specs.declared.outcome.Outcome.{Outcome}
@@ -48,13 +48,13 @@ result_type (results.Set t) = None
 result_type (results.Columns columns) = None
 
 -- a routine of the catalogue
-abbrev pub callee_of : Bodies → Bool → Routine → Callee
-callee_of bodies is_command r = record {
+abbrev pub callee_of : Bool → Routine → Callee
+callee_of is_command r = record {
   routine = r.name;
   is_command = is_command;
   params = r.heading.params;
   result = result_type r.heading.result;
-  body = bodies.of r;
+  body = r.body;
 }
 
 -- a DO
@@ -113,7 +113,7 @@ called r c values at w =
 -- a routine that was there when its name was resolved, and isn't now, is an internal error
 abbrev pub called_if : Option Routine → Runner → List Value → Spot → World → Ran Outcome
 called_if None r values at w = raised INTERNAL_ERROR at w
-called_if (Some routine) r values at w = called r (callee_of r.bodies false routine) values at w
+called_if (Some routine) r values at w = called r (callee_of false routine) values at w
 
 abbrev pub called_by_name : Runner → Spot → Name → List Value → World → Ran Outcome
 called_by_name r at name values w =

@@ -1,8 +1,8 @@
 -- What statements resolve, each form by a word of its own. A word takes the objects, the tree and
 -- what names mean, and nothing else: no value, no row, nothing of the run. The checker asks the
 -- same words. PostgreSQL manual, "PL/pgSQL", "Variable Substitution".
-use Rattle.std.specs.Prelude.{ℕ, ◌+◌, Bool, false, List, [], ◌∷◌, Option}
-use Rattle.std.specs.Prelude.{Some, None, Ok, Err, length, map, slice_get, unwrap_or}
+use Rattle.std.specs.Prelude.{ℕ, Bool, false, List, [], ◌∷◌, Option}
+use Rattle.std.specs.Prelude.{Some, None, Ok, Err, map, slice_get, unwrap_or}
 use Rattle.pl_base.specs.States.{DATATYPE_MISMATCH, FEATURE_NOT_SUPPORTED, UNDEFINED_FUNCTION}
 use Rattle.pl_base.specs.States.{UNDEFINED_OBJECT, WRONG_OBJECT_TYPE}
 use Rattle.pl_base.specs.declared.types.Ty.{Ty}
@@ -15,7 +15,8 @@ use Rattle.pl_bodies.specs.declared.simple.Target.{Target}
 use Rattle.pl_catalog.specs.Objects.{routine_named, routines_in}
 use Rattle.pl_catalog.specs.declared.object.Object.{Object}
 use Rattle.pl_catalog.specs.declared.object.Routine.{Routine}
-use Rattle.pl_names.specs.Names.{Around, Name, count_on, name_means, qualified_means}
+use Rattle.pl_names.specs.Names.{Around, Name, name_means, qualified_means}
+use Rattle.pl_names.specs.Routines.{types_of}
 use Rattle.pl_names.specs.declared.found.Meaning.{Meaning}
 use Rattle.pl_resolved.specs.declared.expression.RExpr.{RExpr}
 use Rattle.pl_resolved.specs.declared.expression.RExpr.TheVariants.{Place}
@@ -29,7 +30,6 @@ use Rattle.pl_scope.specs.declared.resolve.ResolvedExpr.{ResolvedExpr}
 use Rattle.pl_scope.specs.declared.written.Written.TheVariants.{Other}
 use Rattle.pl_targets.specs.Changes.{resolved_delete, resolved_insert, resolved_update}
 use Rattle.pl_targets.specs.declared.change.RChange.{RChange}
-use Rattle.pl_tree.specs.declared.command.Param.{Param}
 use Rattle.pl_tree.specs.declared.command.RoutineKind.{RoutineKind}
 use Rattle.pl_tree.specs.declared.command.RoutineKind.TheVariants.{Function, Procedure}
 use Rattle.pl_tree.specs.declared.tree.Argument.{Argument}
@@ -39,6 +39,7 @@ use Rattle.pl_typing.specs.Calls.{fitted, no_arguments}
 use Rattle.pl_typing.specs.Resolved.{Resolved, ◌>>=◌}
 use Rattle.pl_typing.specs.Typing.{typed}
 use Rattle.pl_typing.specs.declared.calls.Arguments.{Arguments}
+use Rattle.pl_world.specs.Variables.{variables_of}
 use Rattle.pl_world.specs.World.{Static}
 
 -- ---- one reading of the objects and of what names mean
@@ -111,11 +112,11 @@ giving e = then_ask (reading e) (λ x objects st. result_of st.result >>= (λ t.
 
 -- ---- CASE
 
--- the operand's value stands behind all variables and parameters
+-- the operand's value stands behind all variables
 abbrev pub operand : Ty → Static → Part
 operand t st = record {
   written = Other;
-  means = gives (typed (Place 0 (count_on 0 st.scope.frames + length st.scope.params)) t);
+  means = gives (typed (Place 0 (variables_of st.scope.frames)) t);
 }
 
 -- whether the operand, of this type, is IN the values of an arm
@@ -170,17 +171,15 @@ arguments_read list objects st =
     arguments_of (arguments_on (map argument_part list) no_arguments
     (standing objects st.scope) nothing_made)
 
-abbrev pub param_types : Routine → List Ty
-param_types r = map (λ (p : Param). p.ty) r.heading.params
+abbrev pub as_procedure : RoutineKind → Routine → List RExpr → Resolved Calling
+as_procedure Function r list = Err WRONG_OBJECT_TYPE
+as_procedure Procedure r list = Ok (record { routine = r; arguments = list })
 
-abbrev pub as_procedure : RoutineKind → Routine → Arguments → Resolved Calling
-as_procedure Function r all = Err WRONG_OBJECT_TYPE
-as_procedure Procedure r all =
-    fitted all (param_types r) >>= (λ list. Ok (record { routine = r; arguments = list }))
-
+-- a routine that doesn't take the arguments isn't looked at further
 abbrev pub procedure : Option Routine → Arguments → Resolved Calling
 procedure None all = Err UNDEFINED_FUNCTION
-procedure (Some r) all = as_procedure r.heading.kind r all
+procedure (Some r) all =
+    fitted all (types_of r.heading.params) >>= (λ list. as_procedure r.heading.kind r list)
 
 -- the arguments are read first, and no query stands in them
 unfoldable pub calling : Name → List Argument → Asks Calling

@@ -4,7 +4,6 @@ use Rattle.std.specs.Prelude.{ℕ, zero, suc, List, [], ◌∷◌}
 use Rattle.pl_base.specs.States.{QUERY_CANCELED}
 use Rattle.pl_bodies.specs.declared.statement.Body.{Body}
 use Rattle.pl_bodies.specs.declared.statement.Statement.{Statement, out-Statement}
-use Rattle.pl_catalog.specs.declared.object.Routine.{Routine}
 use Rattle.pl_typing.specs.Resolved.{Resolved}
 use Rattle.pl_world.specs.Errors.{Spot, place, raised}
 use Rattle.pl_world.specs.World.{World, Stepped, Ran, behind, and_then, ends}
@@ -23,10 +22,8 @@ spot_of (statement s) = record {
 }
 spot_of (body b) = record { line = b.line; ordinal = 0 }
 
--- the body of a routine of the catalogue, and the body that the text of a DO is read as, or why it
--- is refused
+-- the body that the text of a DO is read as, or why it is refused
 pub record Bodies : Type 0 where
-  pub of : Routine → Body
   pub read : List ℕ → Resolved Body
 
 -- what is run inside of statements and expressions, and how many turns a loop has at the most: no

@@ -2,7 +2,7 @@
 -- "ROLLBACK", "SAVEPOINT", "RELEASE SAVEPOINT", "ROLLBACK TO SAVEPOINT". A savepoint keeps a copy
 -- of the whole database.
 use Rattle.std.specs.Prelude.{ℕ, suc, Bool, true, false, if◌then◌else◌, List, [], ◌∷◌, ◌++◌}
-use Rattle.std.specs.Prelude.{Option, Some, None, bytes_eq, codes, length, slice_get, take}
+use Rattle.std.specs.Prelude.{Option, Some, None, bytes_eq, length, slice_get, take}
 use Rattle.pl_base.specs.States.{ACTIVE_SQL_TRANSACTION, IN_FAILED_SQL_TRANSACTION}
 use Rattle.pl_base.specs.States.{INVALID_SAVEPOINT_SPECIFICATION, NO_ACTIVE_SQL_TRANSACTION}
 use Rattle.pl_base.specs.States.{PROGRAM_LIMIT_EXCEEDED}

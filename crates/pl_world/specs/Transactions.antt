@@ -68,7 +68,7 @@ arguments_over r at list w =
 unfoldable pub procedure_called : Runner → Spot → Calling → World → Ran Outcome
 procedure_called r at c w =
     read (arguments_over r at c.arguments w) at (λ vs w.
-    and_then (called r (callee_of r.bodies true c.routine) vs at w) after_call)
+    and_then (called r (callee_of true c.routine) vs at w) after_call)
 
 -- ---- DO
 

@@ -2,14 +2,14 @@
 -- What names mean changes in five ways alone, of which the checker uses the same: a call is
 -- entered, a block is opened, it declares a variable, it is closed, and later a record is given a
 -- structure.
-use Rattle.std.specs.Prelude.{ℕ, suc, ◌-◌, Bool, false, not, List, [], ◌∷◌, ◌++◌}
+use Rattle.std.specs.Prelude.{ℕ, suc, ◌+◌, ◌-◌, Bool, false, not, List, [], ◌∷◌, ◌++◌}
 use Rattle.std.specs.Prelude.{Option, codes, length, map, nat_eq, replicate}
 use Rattle.std.specs.Prelude.{slice_set, take, unwrap_or}
 use Rattle.pl_base.specs.declared.types.Ty.{Ty}
 use Rattle.pl_base.specs.declared.types.Ty.TheVariants.{Bool as Boolean}
 use Rattle.pl_base.specs.declared.value.Value.{Value}
 use Rattle.pl_base.specs.declared.value.Value.TheVariants.{Bool as Truth}
-use Rattle.pl_names.specs.Names.{Name, count_on}
+use Rattle.pl_names.specs.Names.{Name}
 use Rattle.pl_names.specs.declared.scope.Seen.{Seen}
 use Rattle.pl_names.specs.declared.scope.Shape.TheVariants.{Plain}
 use Rattle.pl_names.specs.declared.scope.Visible.{Visible}
@@ -43,11 +43,16 @@ entering routine params result = record {
   result = result;
 }
 
+-- how many variables they have
+abbrev pub variables_of : List Visible → ℕ
+variables_of [] = 0
+variables_of (b ∷ bs) = length b.variables + variables_of bs
+
 -- with these blocks, and of the variables no more than theirs
 abbrev pub with_blocks : List Visible → Static → Static
 with_blocks blocks st = record {
   scope = record { frames = blocks; params = st.scope.params };
-  required = take (count_on 0 blocks) st.required;
+  required = take (variables_of blocks) st.required;
   result = st.result;
 }
 
@@ -118,7 +123,7 @@ counted n w = with_found (not (nat_eq n 0)) (with_frame (record w.frame { row_co
 
 -- ---- what expressions read
 
--- what stands as row 0 where an expression is evaluated: the variables, and then `$1` and so on,
--- which are the parameters' variables
+-- what stands as row 0 where an expression is evaluated: the variables, of which the first are
+-- `$1` and so on
 abbrev pub row_of : Frame → Row
-row_of f = f.values ++ take (length f.static.scope.params) f.values
+row_of f = f.values
