@@ -1,7 +1,7 @@
 //! The measures.
 
 use crate::maps::{Maps, add_and_take, fill_maps, look_in_maps, scan_maps};
-use crate::rows::{fill, look, mark_often, new_store, scan};
+use crate::rows::{fill, fill_in_commits, look, mark_often, new_store, scan};
 use pl_base::Name;
 use std::io;
 use std::time::{Duration, Instant};
@@ -11,6 +11,8 @@ use std::time::{Duration, Instant};
 pub enum Measure {
     /// Inserts of two columns into a table with a key.
     Inserts,
+    /// The same, with a commit behind every 1,000.
+    Commits,
     /// Looking up each key.
     Finds,
     /// As many times a mark, an insert and going back to the mark.
@@ -27,8 +29,9 @@ pub enum Measure {
     MapScan,
 }
 
-pub const MEASURES: [Measure; 8] = [
+pub const MEASURES: [Measure; 9] = [
     Measure::Inserts,
+    Measure::Commits,
     Measure::Finds,
     Measure::Marks,
     Measure::Scan,
@@ -42,6 +45,7 @@ impl Measure {
     pub fn word(self) -> &'static str {
         match self {
             Measure::Inserts => "inserts",
+            Measure::Commits => "commits",
             Measure::Finds => "finds",
             Measure::Marks => "marks",
             Measure::Scan => "scan",
@@ -85,6 +89,7 @@ pub fn run(rt: HostRuntime, measure: Measure, rows: i32) -> io::Result<Cost> {
 fn run_on(rt: HostRuntime, measure: Measure, name: Name, rows: i32) -> io::Result<Cost> {
     match measure {
         Measure::Inserts => inserts(rt, name, rows),
+        Measure::Commits => commits(rt, name, rows),
         Measure::Finds => finds(rt, name, rows),
         Measure::Marks => marks(rt, name, rows),
         Measure::Scan => scanned(rt, name, rows),
@@ -100,6 +105,14 @@ fn inserts(rt: HostRuntime, name: Name, rows: i32) -> io::Result<Cost> {
     let mut store = new_store(alloc, name)?;
     let start = Instant::now(&rt)?;
     let count = fill(alloc, &mut store, name, rows, 2)?;
+    since(rt, start, count)
+}
+
+fn commits(rt: HostRuntime, name: Name, rows: i32) -> io::Result<Cost> {
+    let alloc = rt.alloc();
+    let mut store = new_store(alloc, name)?;
+    let start = Instant::now(&rt)?;
+    let count = fill_in_commits(alloc, &mut store, name, rows)?;
     since(rt, start, count)
 }
 

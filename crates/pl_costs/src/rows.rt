@@ -14,7 +14,7 @@ pub const FIRST_ADDED: i32 = 100_000_000;
 
 /// So many columns with this number.
 pub fn row(alloc: Global, number: i32, width: usize) -> Result<Cells, AllocError> {
-    let mut row = List::new(alloc);
+    let mut row = List::from_vec(Vec::with_capacity(alloc, width)?);
     for _ in 0..width {
         row.push(Value::Int(number))?;
     }
@@ -70,6 +70,26 @@ pub fn fill(
         let row = row(alloc, number, width)?;
         if is_inserted(store, name, row) {
             count = count.saturating_add(1);
+        }
+    }
+    Ok(count)
+}
+
+/// Adds so many rows of two columns, with a commit behind every 1,000. Counts those that were added.
+pub fn fill_in_commits(
+    alloc: Global,
+    store: &mut Store,
+    name: Name,
+    rows: i32,
+) -> Result<i64, AllocError> {
+    let mut count: i64 = 0;
+    for number in 0..rows {
+        let row = row(alloc, number, 2)?;
+        if is_inserted(store, name, row) {
+            count = count.saturating_add(1);
+        }
+        if number % 1_000 == 999 {
+            store.seal();
         }
     }
     Ok(count)
