@@ -1,14 +1,14 @@
 -- Calls of routines: PostgreSQL manual, "PL/pgSQL", "Returning from a Function", "Calling a
 -- Procedure". A call inside of an expression runs its body where it is reached.
 use Rattle.std.specs.Prelude.{ℕ, Bool, true, false, if◌then◌else◌, List, [], ◌∷◌, ◌++◌, Option}
-use Rattle.std.specs.Prelude.{Some, None, length, nat_lt}
+use Rattle.std.specs.Prelude.{Some, None, ◌&&◌, ◌==◌, length, nat_lt}
 use Rattle.pl_base.specs.States.{FUNCTION_EXECUTED_NO_RETURN_STATEMENT, INTERNAL_ERROR}
 use Rattle.pl_base.specs.States.{STATEMENT_TOO_COMPLEX}
 use Rattle.pl_base.specs.declared.fail.Fail.{Fail}
 use Rattle.pl_base.specs.declared.types.Ty.{Ty}
 use Rattle.pl_base.specs.declared.types.Ty.TheVariants as ty
 use Rattle.pl_base.specs.declared.value.Value.{Value}
-use Rattle.pl_base.specs.declared.value.Value.TheVariants.{Bool as Truth, Null}
+use Rattle.pl_base.specs.declared.value.Value.TheVariants.{Bool as Truth, Text}
 use Rattle.pl_bodies.specs.declared.statement.Body.{Body}
 use Rattle.pl_catalog.specs.Objects.{routine_named, routines_in}
 use Rattle.pl_catalog.specs.declared.object.Routine.{Routine}
@@ -16,6 +16,8 @@ use Rattle.pl_names.specs.Names.{Name}
 use Rattle.pl_tree.specs.declared.command.Param.{Param}
 use Rattle.pl_tree.specs.declared.command.ResultType.{ResultType}
 use Rattle.pl_tree.specs.declared.command.ResultType.TheVariants as results
+use Rattle.pl_tree.specs.declared.command.RoutineKind.{RoutineKind}
+use Rattle.pl_tree.specs.declared.command.RoutineKind.TheVariants.{Function, Procedure}
 use Rattle.pl_value.specs.Meaning.{Calls as CallsOf}
 use Rattle.pl_value.specs.Reading.{Reading, got, fails}
 use Rattle.pl_world.specs.Conversions.{as_type}
@@ -85,13 +87,16 @@ popped_by (f ∷ fs) w = record w { frame = f; below = fs }
 unfoldable pub popped : World → World
 popped w = popped_by w.below w
 
+-- what a routine without a result gives: it prints as nothing, and isn't null
+abbrev pub void : Value
+void = Text []
+
 -- What the body gives once it has ended: the value of RETURN as one of the result's type, so that
--- no handler of the body sees that it can't be; without RETURN nothing, unless a value is due.
+-- no handler of the body sees that it can't be. Where a value is due there has to be a RETURN.
 abbrev pub given : Option Ty → Outcome → Spot → World → Ran Outcome
 given result (outcome.Fail f) at w = ends (outcome.Fail f) w
-given None (outcome.Return v) at w = ends (outcome.Return v) w
+given None o at w = ends (outcome.Return void) w
 given (Some t) (outcome.Return v) at w = as_type t v at w (λ v w. ends (outcome.Return v) w)
-given None o at w = ends (outcome.Return Null) w
 given (Some t) o at w = raised FUNCTION_EXECUTED_NO_RETURN_STATEMENT at w
 
 -- a value or an error, still in the call, which then is gone
@@ -108,16 +113,35 @@ called r c values at w =
     then and_then (r.run (body c.body) (entered c values w)) (left c)
     else raised STATEMENT_TOO_COMPLEX at w
 
+-- ---- a call by name
+
+-- a procedure is called by CALL, which is a command, and a function inside of an expression
+abbrev pub is_called_by : (is_command : Bool) → RoutineKind → Bool
+is_called_by true Procedure = true
+is_called_by true Function = false
+is_called_by false Procedure = false
+is_called_by false Function = true
+
+-- it can be called so, with so many values
+abbrev pub can_be_called : Bool → List Value → Routine → Bool
+can_be_called is_command values r =
+    is_called_by is_command r.heading.kind && (length values == length r.heading.params)
+
+-- The arguments were resolved for a routine of this name. If there is none now that can be called
+-- with them, that is an internal error.
+abbrev pub called_if : Option Routine → Bool → Runner → List Value → Spot → World → Ran Outcome
+called_if None is_command r values at w = raised INTERNAL_ERROR at w
+called_if (Some routine) is_command r values at w =
+    if can_be_called is_command values routine
+    then called r (callee_of is_command routine) values at w
+    else raised INTERNAL_ERROR at w
+
+-- the routine is the one that has the name when its arguments are read
+abbrev pub called_by_name : Runner → Spot → Bool → Name → List Value → World → Ran Outcome
+called_by_name r at is_command name values w =
+    called_if (routine_named name (routines_in w.database.objects)) is_command r values at w
+
 -- ---- a call inside of an expression
-
--- a routine that was there when its name was resolved, and isn't now, is an internal error
-abbrev pub called_if : Option Routine → Runner → List Value → Spot → World → Ran Outcome
-called_if None r values at w = raised INTERNAL_ERROR at w
-called_if (Some routine) r values at w = called r (callee_of false routine) values at w
-
-abbrev pub called_by_name : Runner → Spot → Name → List Value → World → Ran Outcome
-called_by_name r at name values w =
-    called_if (routine_named name (routines_in w.database.objects)) r values at w
 
 -- a world within an evaluation: what happened since it began, and the error of a call that failed
 pub record Within : Type 0 where
@@ -132,8 +156,8 @@ within w told failure = record { world = w; told = told; failure = failure }
 abbrev pub answered : List Event → Ran Outcome → Reading Within Value
 answered told (made w (outcome.Return v) es) = got v (within w (told ++ es) None)
 answered told (made w (outcome.Fail f) es) = fails f.state (within w (told ++ es) (Some f))
-answered told (made w o es) = got Null (within w (told ++ es) None)
+answered told (made w o es) = got void (within w (told ++ es) None)
 
 -- calls from the statement at this spot
 abbrev pub calls : Runner → Spot → CallsOf Within
-calls r at name values x = answered x.told (called_by_name r at name values x.world)
+calls r at name values x = answered x.told (called_by_name r at false name values x.world)

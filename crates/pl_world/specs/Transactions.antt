@@ -16,7 +16,7 @@ use Rattle.pl_resolved.specs.declared.expression.RExpr.{RExpr}
 use Rattle.pl_typing.specs.Resolved.{Resolved}
 use Rattle.pl_value.specs.Meaning.{value, values}
 use Rattle.pl_value.specs.Reading.{Reading}
-use Rattle.pl_world.specs.Calls.{Within, called, callee_of, calls, nameless}
+use Rattle.pl_world.specs.Calls.{Within, called, called_by_name, calls, nameless}
 use Rattle.pl_world.specs.Errors.{Spot, raised, raises}
 use Rattle.pl_world.specs.Expressions.{begun, inner, read}
 use Rattle.pl_world.specs.Resolving.{Calling}
@@ -68,7 +68,7 @@ arguments_over r at list w =
 unfoldable pub procedure_called : Runner → Spot → Calling → World → Ran Outcome
 procedure_called r at c w =
     read (arguments_over r at c.arguments w) at (λ vs w.
-    and_then (called r (callee_of true c.routine) vs at w) after_call)
+    and_then (called_by_name r at true c.routine.name vs w) after_call)
 
 -- ---- DO
 
