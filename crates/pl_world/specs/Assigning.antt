@@ -1,6 +1,6 @@
 -- Values that go into variables: PostgreSQL manual, "PL/pgSQL", "Assignment", "Executing a Command
 -- with a Single-Row Result", "Obtaining the Result Status".
-use Rattle.std.specs.Prelude.{ℕ, pos, Bool, true, false, not, ◌&&◌, List, [], ◌∷◌, unwrap_or}
+use Rattle.std.specs.Prelude.{ℕ, pos, Bool, true, false, not, ◌&&◌, List, [], ◌∷◌, map, unwrap_or}
 use Rattle.pl_base.specs.States.{NULL_VALUE_NOT_ALLOWED}
 use Rattle.pl_base.specs.States.{STACKED_DIAGNOSTICS_ACCESSED_WITHOUT_ACTIVE_HANDLER}
 use Rattle.pl_base.specs.declared.fail.Fail.{Fail}
@@ -52,16 +52,19 @@ put_all [] row at w = ends outcome.Next w
 put_all (v ∷ vs) [] at w = and_then (put v Null at w) (on_next (λ w. put_all vs [] at w))
 put_all (v ∷ vs) (x ∷ row) at w = and_then (put v x at w) (on_next (λ w. put_all vs row at w))
 
--- ---- GET DIAGNOSTICS
+-- ---- GET DIAGNOSTICS, GET STACKED DIAGNOSTICS
 
--- each target is resolved when it is reached, and given ROW_COUNT
+-- each target is resolved when it is reached, and given its value
+unfoldable pub put_each : List (Target × Value) → Spot → World → Ran Outcome
+put_each [] at w = ends outcome.Next w
+put_each (x ∷ xs) at w =
+    resolved (aiming x.0 w.database.objects w.frame.static) at w (λ to.
+    and_then (put to x.1 at w) (on_next (λ w. put_each xs at w)))
+
+-- ROW_COUNT
 unfoldable pub diagnosed : List Target → Spot → World → Ran Outcome
-diagnosed [] at w = ends outcome.Next w
-diagnosed (t ∷ ts) at w =
-    resolved (aiming t w.database.objects w.frame.static) at w (λ v.
-    and_then (put v (Big (pos w.frame.row_count)) at w) (on_next (λ w. diagnosed ts at w)))
-
--- ---- GET STACKED DIAGNOSTICS
+diagnosed list at w =
+    put_each (map (λ (t : Target). (t, Big (pos w.frame.row_count))) list) at w
 
 abbrev pub item_text : StackedItem → Fail → List ℕ
 item_text item.ReturnedSqlstate f = f.state.code
@@ -69,15 +72,12 @@ item_text item.MessageText f = message_text f.state.code f.message
 item_text item.PgExceptionDetail f = unwrap_or f.detail []
 item_text item.PgExceptionHint f = unwrap_or f.hint []
 
-unfoldable pub stacked : List StackedTarget → Fail → Spot → World → Ran Outcome
-stacked [] f at w = ends outcome.Next w
-stacked (s ∷ ss) f at w =
-    resolved (aiming s.target w.database.objects w.frame.static) at w (λ v.
-    and_then (put v (Text (item_text s.item f)) at w) (on_next (λ w. stacked ss f at w)))
+abbrev pub stacked : Fail → StackedTarget → Target × Value
+stacked f s = (s.target, Text (item_text s.item f))
 
 abbrev pub stacked_by : List Fail → List StackedTarget → Spot → World → Ran Outcome
 stacked_by [] list at w = raised STACKED_DIAGNOSTICS_ACCESSED_WITHOUT_ACTIVE_HANDLER at w
-stacked_by (f ∷ fs) list at w = stacked list f at w
+stacked_by (f ∷ fs) list at w = put_each (map (stacked f) list) at w
 
 -- of the error that this call handles
 unfoldable pub stacked_diagnosed : List StackedTarget → Spot → World → Ran Outcome

@@ -95,42 +95,45 @@ sqlstate_of f = Text f.state.code
 abbrev pub sqlerrm_of : Fail → Value
 sqlerrm_of f = Text (message_text f.state.code f.message)
 
--- SQLSTATE and SQLERRM are variables of the handler
-abbrev pub with_sqlstate : Fail → World → World
-with_sqlstate f w =
+-- SQLSTATE and SQLERRM are variables of the handler, under the label of its block
+abbrev pub with_sqlstate : Option Name → Fail → World → World
+with_sqlstate label f w =
     declared (codes "sqlerrm") TextType false (sqlerrm_of f)
-    (declared (codes "sqlstate") TextType false (sqlstate_of f) (opened None w))
+    (declared (codes "sqlstate") TextType false (sqlstate_of f) (opened label w))
 
 -- The world of the failure with the database as it was at the entry. All else stays: variables,
 -- FOUND, ROW_COUNT, steps.
-unfoldable pub handling : World → Fail → World → World
-handling entry f w = with_sqlstate f (with_handled f (record w {
+unfoldable pub handling : Option Name → World → Fail → World → World
+handling label entry f w = with_sqlstate label f (with_handled f (record w {
   database = entry.database;
   depth = entry.depth;
-  changing = entry.changing;
 }))
 
 unfoldable pub handled_end : Outcome → World → Ran Outcome
 handled_end o w = ends o (without_handled (closed w))
 
-abbrev pub handled_by : Runner → Option (List Statement) → World → Fail → World → Ran Outcome
-handled_by r None entry f w = ends (outcome.Fail f) (record w { depth = entry.depth })
-handled_by r (Some statements) entry f w =
-    and_then (all r statements (handling entry f w)) handled_end
+abbrev pub handled_by : Runner → Option Name → Option (List Statement) → World → Fail → World
+    → Ran Outcome
+handled_by r label None entry f w = ends (outcome.Fail f) (record w { depth = entry.depth })
+handled_by r label (Some statements) entry f w =
+    and_then (all r statements (handling label entry f w)) handled_end
 
 -- of the world at the entry the database is used, which is put back for a handler
-unfoldable pub caught : Runner → List Handler → World → Outcome → World → Ran Outcome
-caught r hs entry (outcome.Fail f) w = handled_by r (handler_for hs f) entry f w
-caught r hs entry o w = ends o (record w { depth = entry.depth })
+unfoldable pub caught : Runner → Option Name → List Handler → World → Outcome → World
+    → Ran Outcome
+caught r label hs entry (outcome.Fail f) w = handled_by r label (handler_for hs f) entry f w
+caught r label hs entry o w = ends o (record w { depth = entry.depth })
 
 -- one more block runs protected statements
 abbrev pub deeper : World → World
 deeper w = record w { depth = suc w.depth }
 
 -- statements are protected where the block has handlers
-unfoldable pub protected : Runner → List Statement → List Handler → World → Ran Outcome
-protected r statements [] w = all r statements w
-protected r statements (h ∷ hs) w = and_then (all r statements (deeper w)) (caught r (h ∷ hs) w)
+unfoldable pub protected : Runner → Option Name → List Statement → List Handler → World
+    → Ran Outcome
+protected r label statements [] w = all r statements w
+protected r label statements (h ∷ hs) w =
+    and_then (all r statements (deeper w)) (caught r label (h ∷ hs) w)
 
 -- ---- the block
 
@@ -151,7 +154,7 @@ block_left label o w = ends (block_end label o) (closed w)
 unfoldable pub within_block : Runner → Spot → Block → World → Ran Outcome
 within_block r at b w =
     and_then (all_declared r at (out-Block b).declarations w)
-    (on_next (λ w. protected r (out-Block b).statements (out-Block b).handlers w))
+    (on_next (protected r (out-Block b).label (out-Block b).statements (out-Block b).handlers))
 
 unfoldable pub block : Runner → Spot → Block → World → Ran Outcome
 block r at b w =

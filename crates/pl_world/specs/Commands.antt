@@ -5,6 +5,7 @@ use Rattle.std.specs.Prelude.{Err, bytes_eq, drop, length, min}
 use Rattle.std.specs.List.{list_any}
 use Rattle.pl_base.specs.States.{FEATURE_NOT_SUPPORTED, NO_DATA_FOUND, OBJECT_IN_USE}
 use Rattle.pl_base.specs.States.{SYNTAX_ERROR, TOO_MANY_ROWS}
+use Rattle.pl_base.specs.declared.fail.Fail.{Fail}
 use Rattle.pl_base.specs.declared.state.State.{State}
 use Rattle.pl_bodies.specs.declared.simple.Change.{Change}
 use Rattle.pl_bodies.specs.declared.simple.IntoClause.{IntoClause}
@@ -22,9 +23,11 @@ use Rattle.pl_tree.specs.declared.tree.Query.{Query}
 use Rattle.pl_typing.specs.Resolved.{Resolved}
 use Rattle.pl_undo.specs.Database.{Database}
 use Rattle.pl_value.specs.Frames.{Row}
+use Rattle.pl_value.specs.Reading.{Reading, got, fails}
 use Rattle.pl_world.specs.Assigning.{put_all}
+use Rattle.pl_world.specs.Calls.{Within}
 use Rattle.pl_world.specs.Changes.{changed}
-use Rattle.pl_world.specs.Errors.{Spot, raised, resolved}
+use Rattle.pl_world.specs.Errors.{Spot, raised, resolves}
 use Rattle.pl_world.specs.Expressions.{queried, read}
 use Rattle.pl_world.specs.Resolving.{Asks, Variable, aiming_all, ask, changing, querying, then_ask}
 use Rattle.pl_world.specs.Running.{Runner}
@@ -88,9 +91,14 @@ altering c targets =
     then_ask (changing c) (λ change. then_ask (aiming_all targets) (λ vs.
     ask (Ok (record { change = change; into = vs }))))
 
--- the change no longer runs
-abbrev pub changed_now : World → World
-changed_now w = record w { changing = drop 1 w.changing }
+-- the newest change no longer runs
+abbrev pub no_longer : Within → Within
+no_longer x = record x { world = record x.world { changing = drop 1 x.world.changing } }
+
+-- it ends, also where it fails
+abbrev pub finished : {A : Type 0} → Reading Within A → Reading Within A
+finished (got a x) = got a (no_longer x)
+finished (fails state x) = fails state (no_longer x)
 
 abbrev pub unless_returning : List Head → Spot → World → Ran Outcome
 unless_returning [] at w = ends outcome.Next w
@@ -103,8 +111,8 @@ returned (Some clause) a rows at w = into clause.is_strict false a.into rows at 
 
 unfoldable pub altered : Runner → Spot → Option IntoClause → Altering → World → Ran Outcome
 altered r at clause a w =
-    read (changed r at a.change w) at (λ rows w.
-    returned clause a rows at (counted (length rows) (changed_now w)))
+    read (finished (changed r at a.change w)) at (λ rows w.
+    returned clause a rows at (counted (length rows) w))
 
 -- ---- CREATE and DROP
 
@@ -148,8 +156,10 @@ noticed (Some state) o w = made w o (Said (notice_line state) ∷ [])
 abbrev pub with_database : Database → World → World
 with_database db w = record w { database = db }
 
-unfoldable pub defines : Spot → Definition → List ℕ → World → Ran Outcome
-defines at d source w =
-    behind (Began a_definition ∷ [])
-    (resolved (defining (stored_by d source) source w.changing w.database) at w (λ b.
-    noticed b.notice outcome.Next (with_database b.database w)))
+-- for every form of an end that an error may take: what is answered where there is none
+module _ {O : Type 0} (failed : Fail → O) where
+  unfoldable pub defines : O → Spot → Definition → List ℕ → World → Ran O
+  defines done at d source w =
+      behind (Began a_definition ∷ [])
+      (resolves failed (defining (stored_by d source) source w.changing w.database) at w (λ b.
+      noticed b.notice done (with_database b.database w)))

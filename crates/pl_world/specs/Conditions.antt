@@ -3,6 +3,7 @@
 use Rattle.std.specs.Prelude.{ℕ, Bool, true, false, not, ◌&&◌, ◌||◌, if◌then◌else◌, List, [], ◌∷◌}
 use Rattle.std.specs.Prelude.{Option, Some, None, bytes_eq, codes, drop, length, nat_eq, take}
 use Rattle.std.specs.List.{list_all, list_any}
+use Rattle.std.specs.Option.{option_or}
 use Rattle.std.specs.Char.{is_ascii_digit, is_ascii_uppercase}
 use Rattle.pl_base.specs.Condition.{Row, conditions}
 use Rattle.pl_base.specs.States.{ASSERT_FAILURE, QUERY_CANCELED}
@@ -42,7 +43,7 @@ code_of (condition.Code text) = code_spelled text
 
 -- a text that is a code or a name
 abbrev pub code_or_name : List ℕ → Option State
-code_or_name text = if is_code text then Some (record { code = text }) else code_named text
+code_or_name text = option_or (code_spelled text) (code_named text)
 
 -- ---- what a condition matches
 

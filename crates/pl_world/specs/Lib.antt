@@ -19,3 +19,4 @@ pub mod Statements
 pub mod Sessions
 pub mod Scripts
 pub mod Laws
+pub mod ExampleValues

@@ -45,13 +45,17 @@ Text = List ℕ
 abbrev pub within_limit : Text → Resolved Text
 within_limit t = if nat_le (length t) text_limit then Ok t else Err PROGRAM_LIMIT_EXCEEDED
 
--- an argument as it is printed; null is printed too
-abbrev pub argument_text : Value → Resolved Text
-argument_text v = if is_null v then Ok (codes "<NULL>") else within_limit (output v)
+-- a value as it is printed, and something else for null
+abbrev pub text_or : Resolved Text → Value → Resolved Text
+text_or other v = if is_null v then other else within_limit (output v)
 
--- an option has a value
+-- an argument; null is printed too
+abbrev pub argument_text : Value → Resolved Text
+argument_text = text_or (Ok (codes "<NULL>"))
+
+-- an option is not null
 abbrev pub option_text : Value → Resolved Text
-option_text v = if is_null v then Err NULL_VALUE_NOT_ALLOWED else within_limit (output v)
+option_text = text_or (Err NULL_VALUE_NOT_ALLOWED)
 
 -- `%`
 abbrev pub percent : ℕ
@@ -122,19 +126,19 @@ raised_fail state text detail hint at w = record {
   place = place at w;
 }
 
-abbrev pub told : Text → World → Ran Outcome
-told lines w = made w outcome.Next (Said lines ∷ [])
+abbrev pub printed : Text → World → Ran Outcome
+printed lines w = made w outcome.Next (Said lines ∷ [])
 
 -- an error at level EXCEPTION, and lines or nothing below it
 unfoldable pub reported : Level → Report → Spot → World → Ran Outcome
 reported level.Debug rep at w = ends outcome.Next w
 reported level.Log rep at w = ends outcome.Next w
 reported level.Info rep at w =
-    told (notice_bytes print.Info (text_of_report level.Info rep) rep.detail rep.hint) w
+    printed (notice_bytes print.Info (text_of_report level.Info rep) rep.detail rep.hint) w
 reported level.Notice rep at w =
-    told (notice_bytes print.Notice (text_of_report level.Notice rep) rep.detail rep.hint) w
+    printed (notice_bytes print.Notice (text_of_report level.Notice rep) rep.detail rep.hint) w
 reported level.Warning rep at w =
-    told (notice_bytes print.Warning (text_of_report level.Warning rep) rep.detail rep.hint) w
+    printed (notice_bytes print.Warning (text_of_report level.Warning rep) rep.detail rep.hint) w
 reported level.Exception rep at w =
     raises outcome.Fail (raised_fail (unwrap_or rep.state RAISE_EXCEPTION)
     (text_of_report level.Exception rep) rep.detail rep.hint at w) w
@@ -200,7 +204,7 @@ abbrev pub assert_fails : Text → Spot → World → Ran Outcome
 assert_fails text at w = raises outcome.Fail (raised_fail ASSERT_FAILURE text None None at w) w
 
 abbrev pub assertion_text : Value → Resolved Text
-assertion_text v = if is_null v then Ok assertion_failed else within_limit (output v)
+assertion_text = text_or (Ok assertion_failed)
 
 abbrev pub assert_message : Runner → Spot → Option Expr → World → Ran Outcome
 assert_message r at None w = assert_fails assertion_failed at w

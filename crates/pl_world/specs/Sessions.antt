@@ -19,18 +19,16 @@ use Rattle.pl_print.specs.declared.reply.Grid.{Grid}
 use Rattle.pl_print.specs.declared.reply.Level.TheVariants.{Warning}
 use Rattle.pl_print.specs.declared.reply.Tag.{Tag}
 use Rattle.pl_print.specs.declared.reply.Tag.TheVariants as tag
-use Rattle.pl_reading.specs.Defining.{stored_by}
 use Rattle.pl_resolved.specs.declared.query.Head.{Head}
 use Rattle.pl_targets.specs.declared.change.RChange.{RChange}
 use Rattle.pl_tree.specs.declared.command.Command.{Command}
 use Rattle.pl_tree.specs.declared.command.Command.TheVariants as command
-use Rattle.pl_tree.specs.declared.command.Definition.{Definition}
 use Rattle.pl_tree.specs.declared.tree.Argument.{Argument}
 use Rattle.pl_tree.specs.declared.tree.Query.{Query}
 use Rattle.pl_undo.specs.Database.{Database}
 use Rattle.pl_value.specs.Frames.{Row}
 use Rattle.pl_world.specs.Changes.{changed}
-use Rattle.pl_world.specs.Commands.{changed_now, defining, noticed, with_database}
+use Rattle.pl_world.specs.Commands.{defines, finished}
 use Rattle.pl_world.specs.Errors.{Spot, failure, raises, resolves}
 use Rattle.pl_world.specs.Expressions.{reads, rows_over}
 use Rattle.pl_world.specs.Resolving as words
@@ -38,7 +36,7 @@ use Rattle.pl_world.specs.Running.{Bodies, Runner}
 use Rattle.pl_world.specs.Statements.{runner_for}
 use Rattle.pl_world.specs.Transactions.{does, procedure_called}
 use Rattle.pl_world.specs.World.{Began, Committed, Event, Frame, Raised, Ran, Said, World}
-use Rattle.pl_world.specs.World.{a_definition, a_rollback, made, behind, and_then, ends}
+use Rattle.pl_world.specs.World.{a_rollback, made, and_then, ends}
 use Rattle.pl_world.specs.declared.outcome.Outcome.{Outcome}
 use Rattle.pl_world.specs.declared.outcome.Outcome.TheVariants as outcome
 use Rattle.pl_world.specs.declared.session.Mode.{Mode}
@@ -53,8 +51,8 @@ reply tag grid fail = record { tag = tag; grid = grid; fail = fail }
 abbrev pub tagged : Tag → Reply
 tagged tag = reply (Some tag) None None
 
-abbrev pub failing : Fail → Reply
-failing f = reply None None (Some f)
+abbrev pub failed : Fail → Reply
+failed f = reply None None (Some f)
 
 -- ---- commands that are no transaction control
 
@@ -65,43 +63,37 @@ top = record { line = 1; ordinal = 0 }
 -- what is printed has to fit
 abbrev pub shown : List Row → Reply → World → Ran Reply
 shown rows answer w =
-    if has_long rows then raises failing (failure PROGRAM_LIMIT_EXCEEDED top w) w else ends answer w
+    if has_long rows then raises failed (failure PROGRAM_LIMIT_EXCEEDED top w) w else ends answer w
 
 abbrev pub selects : Runner → Query → World → Ran Reply
 selects r q w =
-    resolves failing (words.querying q w.database.objects w.frame.static) top w (λ queries.
-    reads failing (rows_over r top queries w) top (λ rows w.
+    resolves failed (words.querying q w.database.objects w.frame.static) top w (λ queries.
+    reads failed (rows_over r top queries w) top (λ rows w.
     shown rows (reply None (Some (grid_of (heads_of queries) rows)) None) w))
 
 -- the rows of RETURNING, where there is one
-abbrev pub returned : List Head → List Row → Option Grid
-returned [] rows = None
-returned (head ∷ heads) rows = Some (grid_of (head ∷ heads) rows)
+abbrev pub returning_grid : List Head → List Row → Option Grid
+returning_grid [] rows = None
+returning_grid (head ∷ heads) rows = Some (grid_of (head ∷ heads) rows)
 
 abbrev pub change_reply : RChange → List Row → Reply
 change_reply c rows =
-    reply (Some (changing.tag_of c.what (length rows))) (returned c.heads rows) None
+    reply (Some (changing.tag_of c.what (length rows))) (returning_grid c.heads rows) None
 
 abbrev pub changes : Runner → Change → World → Ran Reply
 changes r c w =
-    resolves failing (words.changing c w.database.objects w.frame.static) top w (λ a.
-    reads failing (changed r top a w) top (λ rows w.
-    shown rows (change_reply a rows) (changed_now w)))
-
-abbrev pub defines : Definition → List ℕ → World → Ran Reply
-defines d source w =
-    behind (Began a_definition ∷ [])
-    (resolves failing (defining (stored_by d source) source w.changing w.database) top w (λ b.
-    noticed b.notice (tagged (meaning.tag_of d)) (with_database b.database w)))
+    resolves failed (words.changing c w.database.objects w.frame.static) top w (λ a.
+    reads failed (finished (changed r top a w)) top (λ rows w.
+    shown rows (change_reply a rows) w))
 
 -- a command that runs a body
 abbrev pub ran_body : Tag → Outcome → World → Ran Reply
-ran_body tag (outcome.Fail f) w = ends (failing f) w
+ran_body tag (outcome.Fail f) w = ends (failed f) w
 ran_body tag o w = ends (tagged tag) w
 
 abbrev pub calls : Runner → Name → List Argument → World → Ran Reply
 calls r name arguments w =
-    resolves failing (words.calling name arguments w.database.objects w.frame.static) top w (λ c.
+    resolves failed (words.calling name arguments w.database.objects w.frame.static) top w (λ c.
     and_then (procedure_called r top c w) (ran_body tag.Call))
 
 abbrev pub command_done : Runner → Command → World → Ran Reply
@@ -109,7 +101,8 @@ command_done r (command.Query q) w = selects r q w
 command_done r (command.Insert i) w = changes r (change.Insert i) w
 command_done r (command.Update u) w = changes r (change.Update u) w
 command_done r (command.Delete d) w = changes r (change.Delete d) w
-command_done r (command.Define d source) w = defines d source w
+command_done r (command.Define d source) w =
+    defines failed (tagged (meaning.tag_of d)) top d source w
 command_done r (command.Do language text) w =
     and_then (does r top language text w) (ran_body tag.Do)
 command_done r (command.Call name arguments) w = calls r name arguments w
@@ -142,7 +135,7 @@ after_error mode.Failed = mode.Failed
 
 -- an error, and nothing is done
 abbrev pub refuses : Fail → Session → Went
-refuses f s = went (session s.world (after_error s.mode) s.saves) (failing f) (Raised f ∷ [])
+refuses f s = went (session s.world (after_error s.mode) s.saves) (failed f) (Raised f ∷ [])
 
 abbrev pub refused : State → Session → Went
 refused state s = refuses (failure state top s.world) s
@@ -163,8 +156,8 @@ abbrev pub undone : Reply → List Event → World → Went
 undone answer es w = went (over w.last w.last w) answer es
 
 -- the database now is committed
-abbrev pub settled : Reply → List Event → World → Went
-settled answer es w =
+abbrev pub committed : Reply → List Event → World → Went
+committed answer es w =
     went (over w.database w.database w) answer (es ++ Committed w.database ∷ [])
 
 -- ---- a command in each mode
@@ -172,7 +165,7 @@ settled answer es w =
 -- alone it is a transaction
 abbrev pub ended_alone : Option Fail → Reply → List Event → World → Went
 ended_alone (Some f) answer es w = undone answer es w
-ended_alone None answer es w = settled answer es w
+ended_alone None answer es w = committed answer es w
 
 -- in a block an error makes the block void
 abbrev pub ended_inside : Option Fail → List Save → Reply → List Event → World → Went
@@ -186,11 +179,11 @@ abbrev pub inside : List Save → Ran Reply → Went
 inside saves (made w answer es) = ended_inside answer.fail saves answer es w
 
 -- with the steps of a new command
-abbrev pub begun : ℕ → World → World
-begun budget w = record w { steps = budget; changing = [] }
+abbrev pub with_steps : ℕ → World → World
+with_steps budget w = record w { steps = budget }
 
 abbrev pub plain : Bodies → ℕ → Command → Session → Ran Reply
-plain bodies budget c s = command_done (runner_for bodies budget) c (begun budget s.world)
+plain bodies budget c s = command_done (runner_for bodies budget) c (with_steps budget s.world)
 
 abbrev pub does_plain : Bodies → ℕ → Command → Mode → Session → Went
 does_plain bodies budget c mode.Idle s = alone (plain bodies budget c s)
@@ -208,13 +201,13 @@ begins t mode.Failed s = refused IN_FAILED_SQL_TRANSACTION s
 -- COMMIT of a void block is a ROLLBACK
 abbrev pub commits : Mode → Session → Went
 commits mode.Idle s =
-    settled (tagged tag.Commit) (warning NO_ACTIVE_SQL_TRANSACTION) s.world
-commits mode.Block s = settled (tagged tag.Commit) [] s.world
+    committed (tagged tag.Commit) (warning NO_ACTIVE_SQL_TRANSACTION) s.world
+commits mode.Block s = committed (tagged tag.Commit) [] s.world
 commits mode.Failed s = undone (tagged tag.Rollback) (Began a_rollback ∷ []) s.world
 
 abbrev pub rolls_back : Mode → Session → Went
 rolls_back mode.Idle s =
-    settled (tagged tag.Rollback) (warning NO_ACTIVE_SQL_TRANSACTION) s.world
+    committed (tagged tag.Rollback) (warning NO_ACTIVE_SQL_TRANSACTION) s.world
 rolls_back m s = undone (tagged tag.Rollback) (Began a_rollback ∷ []) s.world
 
 -- ---- savepoints

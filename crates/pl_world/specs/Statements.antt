@@ -3,6 +3,7 @@
 -- 0A000, and is refused where a body is made.
 use Rattle.std.specs.Prelude.{ℕ, zero, suc, List, [], Option, Some, None}
 use Rattle.pl_base.specs.States.{FEATURE_NOT_SUPPORTED, QUERY_CANCELED}
+use Rattle.pl_bodies.specs.declared.simple.Change.{Change}
 use Rattle.pl_bodies.specs.declared.simple.Change.TheVariants as change
 use Rattle.pl_bodies.specs.declared.simple.IntoClause.{IntoClause}
 use Rattle.pl_bodies.specs.declared.simple.Simple.{Simple}
@@ -57,19 +58,20 @@ abbrev pub targets_in : Option IntoClause → List Target
 targets_in None = []
 targets_in (Some clause) = clause.targets
 
+-- INSERT, UPDATE or DELETE
+abbrev pub alters : Runner → Spot → Change → Option IntoClause → World → Ran Outcome
+alters r at c into w =
+    resolved (altering c (targets_in into) w.database.objects w.frame.static) at w (λ a.
+    altered r at into a w)
+
 -- any other command
 abbrev pub command_form : Runner → Spot → Command → World → Ran Outcome
 command_form r at (command.Query q) w = queries r at q None w
-command_form r at (command.Insert i) w =
-    resolved (altering (change.Insert i) [] w.database.objects w.frame.static) at w (λ a.
-    altered r at None a w)
-command_form r at (command.Update u) w =
-    resolved (altering (change.Update u) [] w.database.objects w.frame.static) at w (λ a.
-    altered r at None a w)
-command_form r at (command.Delete d) w =
-    resolved (altering (change.Delete d) [] w.database.objects w.frame.static) at w (λ a.
-    altered r at None a w)
-command_form r at (command.Define d source) w = defines at d source w
+command_form r at (command.Insert i) w = alters r at (change.Insert i) None w
+command_form r at (command.Update u) w = alters r at (change.Update u) None w
+command_form r at (command.Delete d) w = alters r at (change.Delete d) None w
+command_form r at (command.Define d source) w =
+    defines outcome.Fail outcome.Next at d source w
 command_form r at (command.Do language text) w = does r at language text w
 command_form r at (command.Call name arguments) w =
     resolved (calling name arguments w.database.objects w.frame.static) at w (λ c.
@@ -93,9 +95,7 @@ simple_form r at (simple.Perform query) w =
     resolved (querying query w.database.objects w.frame.static) at w (λ qs.
     performed r at qs w)
 simple_form r at (simple.Query query into) w = queries r at query into w
-simple_form r at (simple.Change c into) w =
-    resolved (altering c (targets_in into) w.database.objects w.frame.static) at w (λ a.
-    altered r at into a w)
+simple_form r at (simple.Change c into) w = alters r at c into w
 simple_form r at (simple.Command c) w = command_form r at c w
 simple_form r at (simple.Jump jump label condition) w = jumps r at jump label condition w
 simple_form r at (simple.Return value) w = returns r at value w

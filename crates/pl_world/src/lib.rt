@@ -9,7 +9,8 @@ mod session;
 
 pub use examples::examples_hold;
 pub use laws::{
-    calls_end, handlers_begin, protection_keeps, runs_join, savepoints_are_found, steps_end_all,
+    calls_end, handlers_begin, parameters_have_values, protection_keeps, runs_join,
+    savepoints_are_found, steps_end_all, steps_end_at_any_depth,
 };
 pub use outcome::Outcome;
 pub use session::{Mode, Reply};

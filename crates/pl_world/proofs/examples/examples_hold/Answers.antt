@@ -1,9 +1,12 @@
 use Rattle.std.proofs.Common.{refl}
 use Rattle.pl_base.specs.Condition.{conditions}
+use Rattle.pl_names.specs.Names.{qualified_means}
 use Rattle.pl_world.proofs.examples.examples_hold.Goals as goal
+use Rattle.pl_world.specs.Blocks.{handling}
+use Rattle.pl_world.specs.Variables.{declared, opened}
 
 pub returns : goal.returns
-unfolding conditions
+unfolding conditions qualified_means handling declared opened
 returns c = record {
   up = refl;
   to_the_last = refl;
@@ -18,4 +21,10 @@ returns c = record {
   of_no_class = refl;
   others = refl;
   not_canceled = refl;
+  sqlstate_of_block = refl;
+  no_function_by_call = refl;
+  no_procedure_inside = refl;
+  void_given = refl;
+  void_prints = refl;
+  void_is_no_null = refl;
 }
