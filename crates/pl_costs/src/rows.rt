@@ -75,7 +75,8 @@ pub fn fill(
     Ok(count)
 }
 
-/// Adds so many rows of two columns, with a commit behind every 1,000. Counts those that were added.
+/// Adds so many rows of two columns, with a commit behind every 1,000. Counts those that were
+/// added.
 pub fn fill_in_commits(
     alloc: Global,
     store: &mut Store,

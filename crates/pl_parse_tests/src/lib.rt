@@ -48,6 +48,8 @@ mod no_commands;
 #[cfg(test)]
 mod no_definitions;
 #[cfg(test)]
+mod pieces;
+#[cfg(test)]
 mod queries;
 #[cfg(test)]
 mod refusals;

@@ -1,0 +1,7 @@
+pub mod Pairs
+pub mod Fits
+pub mod Step
+pub mod Told
+pub mod Theorem
+pub mod Turned
+pub mod Called

@@ -1,0 +1,5 @@
+pub mod Words
+pub mod Ahead
+pub mod Trees
+pub mod Grammar
+pub mod FirstFollow
