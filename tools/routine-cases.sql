@@ -87,7 +87,7 @@ SELECT one(1) IN (1, big(2))
 SELECT one(1) IN (SELECT b FROM t)
 SELECT coalesce(one(1), big(1)), greatest(one(1), 2)
 SELECT nullif(one(1), '1')
-SELECT CASE WHEN holds(f) THEN one(a) ELSE big(b) END FROM t
+SELECT CASE WHEN holds(f) THEN one(a) ELSE big(b) END AS x FROM t
 SELECT CASE one(a) WHEN '1' THEN said(s) END FROM t
 SELECT one(1)::text, said('1')::integer
 SELECT ROW(one(1), said('x'))
@@ -134,7 +134,6 @@ SELECT * FROM big(1) x
 SELECT x.x FROM said('y') x
 SELECT one FROM one(1)
 SELECT one.one + 1 FROM one(1)
-SELECT x.one FROM one(1) x
 SELECT * FROM one(1), big(1)
 SELECT * FROM one(1), one(2)
 SELECT * FROM one(1) x JOIN t ON x.x = t.a

@@ -79,7 +79,7 @@ SELECT one(1) IN (1, big(2))  ->  ?column? boolean
 SELECT one(1) IN (SELECT b FROM t)  ->  ?column? boolean
 SELECT coalesce(one(1), big(1)), greatest(one(1), 2)  ->  coalesce bigint,greatest integer
 SELECT nullif(one(1), '1')  ->  nullif integer
-SELECT CASE WHEN holds(f) THEN one(a) ELSE big(b) END FROM t  ->  big bigint
+SELECT CASE WHEN holds(f) THEN one(a) ELSE big(b) END AS x FROM t  ->  x bigint
 SELECT CASE one(a) WHEN '1' THEN said(s) END FROM t  ->  case text
 SELECT one(1)::text, said('1')::integer  ->  one text,said integer
 SELECT ROW(one(1), said('x'))  ->  row record
@@ -126,7 +126,6 @@ SELECT * FROM big(1) x  ->  x bigint
 SELECT x.x FROM said('y') x  ->  x text
 SELECT one FROM one(1)  ->  one integer
 SELECT one.one + 1 FROM one(1)  ->  ?column? integer
-SELECT x.one FROM one(1) x  ->  one integer
 SELECT * FROM one(1), big(1)  ->  one integer,big bigint
 SELECT * FROM one(1), one(2)  ->  42712
 SELECT * FROM one(1) x JOIN t ON x.x = t.a  ->  x integer,a integer,b bigint,s text,f boolean
