@@ -11,7 +11,7 @@ use Rattle.pl_bodies.specs.declared.statement.Otherwise.{Otherwise, fold-Otherwi
 use Rattle.pl_bodies.specs.declared.statement.Statement.{Statement, out-Statement}
 use Rattle.pl_bodies.specs.declared.statement.StatementKind.TheVariants as k
 use Rattle.pl_bodies.specs.declared.statement.StatementKind.{StatementKind, the_lemmas}
-use Rattle.pl_body_rules.specs.Rules.{Means, Part, arm_step, arm_view, block_means, block_step, branch_step, branch_view, choice_means, first, handler_step, handler_view, if_there, in_block, in_kind, in_loop, in_statement, kind_step, loop_means, loop_step, otherwise_step, otherwise_view, simple_means, statement_step}
+use Rattle.pl_body_rules.specs.Rules.{HandlerPart, Means, Part, arm_step, arm_view, block_means, block_step, branch_step, branch_view, choice_means, first, handler_step, handler_view, if_there, in_block, in_kind, in_loop, in_statement, kind_step, loop_means, loop_step, otherwise_step, otherwise_view, simple_means, statement_step}
 use Rattle.pl_body_rules.proofs.Options.{or_next, or_some}
 use Rattle.pl_body_rules.specs.declared.breach.Breach.{Breach}
 use Rattle.pl_body_rules.specs.declared.frames.Frame.{Frame}
@@ -21,7 +21,7 @@ use Rattle.pl_tree.specs.declared.tree.Expr.{Expr}
 -- ---- parts that stand in lists
 
 unfoldable branch_raw : Returns → Branch → Means
-branch_raw r = fold-Branch Part Part Means Means Part Part Means Means
+branch_raw r = fold-Branch Part Part Means Means HandlerPart Part Means Means
     (kind_step r) block_step branch_step arm_step handler_step loop_step otherwise_step statement_step
 
 branch_out : (r : Returns) (x : Branch) → branch_raw r x ≡ branch_view r x
@@ -33,7 +33,7 @@ map_branch r [] = refl
 map_branch r (x ∷ xs) = cc (branch_out r x, map_branch r xs)
 
 unfoldable arm_raw : Returns → CaseArm → Means
-arm_raw r = fold-CaseArm Part Part Means Means Part Part Means Means
+arm_raw r = fold-CaseArm Part Part Means Means HandlerPart Part Means Means
     (kind_step r) block_step branch_step arm_step handler_step loop_step otherwise_step statement_step
 
 arm_out : (r : Returns) (x : CaseArm) → arm_raw r x ≡ arm_view r x
@@ -45,7 +45,7 @@ map_arm r [] = refl
 map_arm r (x ∷ xs) = cc (arm_out r x, map_arm r xs)
 
 unfoldable otherwise_raw : Returns → Otherwise → Means
-otherwise_raw r = fold-Otherwise Part Part Means Means Part Part Means Means
+otherwise_raw r = fold-Otherwise Part Part Means Means HandlerPart Part Means Means
     (kind_step r) block_step branch_step arm_step handler_step loop_step otherwise_step statement_step
 
 otherwise_out : (r : Returns) (x : Otherwise) → otherwise_raw r x ≡ otherwise_view r x
@@ -56,8 +56,8 @@ map_otherwise : (r : Returns) (x : Option Otherwise) → option_map (otherwise_r
 map_otherwise r None = refl
 map_otherwise r (Some x) = ap (λ (m : Means). Some m) (otherwise_out r x)
 
-unfoldable handler_raw : Returns → Handler → Part
-handler_raw r = fold-Handler Part Part Means Means Part Part Means Means
+unfoldable handler_raw : Returns → Handler → HandlerPart
+handler_raw r = fold-Handler Part Part Means Means HandlerPart Part Means Means
     (kind_step r) block_step branch_step arm_step handler_step loop_step otherwise_step statement_step
 
 handler_out : (r : Returns) (x : Handler) → handler_raw r x ≡ handler_view r x
@@ -147,6 +147,6 @@ block_raw r b = first_of (search (rules, the_lemmas), grind (arith, the_lemmas))
 pub block_out : (r : Returns) (b : Block) → in_block r b ≡ block_means (out-Block b).label (out-Block b).declarations (map (in_statement r) (out-Block b).statements) (map (handler_view r) (out-Block b).handlers) (out-Block b).end_label
 block_out r b =
     block_raw r b
-    ∙ ap (λ (hs : List Part). block_means (out-Block b).label (out-Block b).declarations (map (in_statement r) (out-Block b).statements) hs (out-Block b).end_label) (map_handler r (out-Block b).handlers)
+    ∙ ap (λ (hs : List HandlerPart). block_means (out-Block b).label (out-Block b).declarations (map (in_statement r) (out-Block b).statements) hs (out-Block b).end_label) (map_handler r (out-Block b).handlers)
 
 pub ruleset kind_equations = (kind_block, kind_loop, kind_simple, kind_if, kind_case)

@@ -11,7 +11,6 @@ use Rattle.pl_bodies.specs.declared.declaration.VariableType.TheVariants as ty
 use Rattle.pl_bodies.specs.declared.declaration.VariableType.{VariableType}
 use Rattle.pl_body_rules.specs.Frames.{Name, Variables, variable_in, with_variable, variable_named}
 use Rattle.pl_body_rules.specs.Heading.{kind_of_type, variable}
-use Rattle.pl_body_rules.specs.declared.breach.Breach.{Breach}
 use Rattle.pl_body_rules.specs.declared.declaring.Declared.TheVariants as made
 use Rattle.pl_body_rules.specs.declared.declaring.Declared.{Declared}
 use Rattle.pl_body_rules.specs.declared.frames.Frame.{Frame}

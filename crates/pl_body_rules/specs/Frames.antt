@@ -1,6 +1,6 @@
 -- What names and labels mean at a statement: PostgreSQL manual, PL/pgSQL, "Structure of PL/pgSQL"
 -- and "Variable Scope". Of two that have a name the inner one is meant.
-use Rattle.std.specs.Prelude.{ℕ, ◌&&◌, Bool, true, false, if◌then◌else◌, bytes_eq, is_some}
+use Rattle.std.specs.Prelude.{ℕ, Bool, false, if◌then◌else◌, bytes_eq, is_some}
 use Rattle.std.specs.Prelude.{List, [], ◌∷◌, ◌++◌, Option, Some, None}
 use Rattle.std.specs.Map.{lookup}
 use Rattle.std.specs.Option.{option_or}
@@ -52,19 +52,11 @@ abbrev pub if_row : Option Variable → Option Variable
 if_row None = None
 if_row (Some v) = row_of_kind v.kind v
 
--- the labels that qualify the names of variables
-abbrev pub labels_variables : FrameKind → Bool
-labels_variables kind.Routine = true
-labels_variables kind.Block = true
-labels_variables kind.Loop = false
-labels_variables kind.Handler = false
-
 abbrev pub of_label : Name → Name → Frame → Option Variable
 of_label q x frame =
-    if labels_variables frame.kind && is_labelled q frame then variable_in x frame.variables
-    else None
+    if is_labelled q frame then variable_in x frame.variables else None
 
--- `x`, or `q.x`: a field of the row or record q, or the variable x of the block or routine q
+-- `x`, or `q.x`: a field of the row or record q, or the variable x of what has the label q
 abbrev pub named_in : Option Name → Name → Frame → Option Variable
 named_in None x frame = variable_in x frame.variables
 named_in (Some q) x frame = option_or (if_row (variable_in q frame.variables)) (of_label q x frame)

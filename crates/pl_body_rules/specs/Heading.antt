@@ -78,17 +78,18 @@ with_found r vs =
 
 -- ---- frames
 
+-- FOUND and the variables of triggers hide what is declared of the routine
 abbrev pub routine_frame : Routine → Frame
 routine_frame r = record {
   label = r.name;
   kind = kind.Routine;
-  variables = with_found r.result (with_columns r.result (with_params r.params []));
+  variables = with_columns r.result (with_params r.params (with_found r.result []));
 }
 
--- a handler knows two variables more, which no statement changes
-abbrev pub handler_frame : Frame
-handler_frame = record {
-  label = None;
+-- a handler knows two variables more, which no statement changes, under the label of its block
+abbrev pub handler_frame : Option Name → Frame
+handler_frame label = record {
+  label = label;
   kind = kind.Handler;
   variables = with_all (codes "sqlstate" ∷ codes "sqlerrm" ∷ [])
       (record { kind = Plain; is_constant = true }) [];

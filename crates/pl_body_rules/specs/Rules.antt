@@ -43,6 +43,10 @@ Means = List Frame → Option Breach
 abbrev pub Part : Type 0
 Part = ℕ → Means
 
+-- a handler of the block that has this label
+abbrev pub HandlerPart : Type 0
+HandlerPart = Option Name → Part
+
 abbrev pub at : ℕ → Option State → Option Breach
 at line None = None
 at line (Some state) = Some (record { state = state; line = line })
@@ -53,9 +57,10 @@ abbrev pub first : List Means → List Frame → Option Breach
 first [] frames = None
 first (m ∷ ms) frames = option_or (m frames) (first ms frames)
 
-abbrev pub first_on : ℕ → List Part → List Frame → Option Breach
-first_on line [] frames = None
-first_on line (p ∷ ps) frames = option_or (p line frames) (first_on line ps frames)
+abbrev pub first_on : Option Name → ℕ → List HandlerPart → List Frame → Option Breach
+first_on label line [] frames = None
+first_on label line (h ∷ hs) frames =
+    option_or (h label line frames) (first_on label line hs frames)
 
 abbrev pub if_there : Option Means → List Frame → Option Breach
 if_there None frames = None
@@ -92,26 +97,29 @@ loop_means label h statements end_label line frames =
 
 -- ---- blocks
 
-abbrev pub handler_means : List Caught → List Means → ℕ → List Frame → Option Breach
-handler_means conditions statements line frames =
-    option_or (at line (caught_state conditions)) (first statements (frames ++ handler_frame ∷ []))
+abbrev pub handler_means : List Caught → List Means → Option Name → ℕ → List Frame → Option Breach
+handler_means conditions statements label line frames =
+    option_or (at line (caught_state conditions))
+    (first statements (frames ++ handler_frame label ∷ []))
 
-abbrev pub parts_means : List Means → List Part → ℕ → List Frame → Option Breach
-parts_means statements handlers line frames =
-    option_or (first statements frames) (first_on line handlers frames)
+abbrev pub parts_means : List Means → List HandlerPart → Option Name → ℕ → List Frame
+    → Option Breach
+parts_means statements handlers label line frames =
+    option_or (first statements frames) (first_on label line handlers frames)
 
 -- the declarations, and if they break no rule the rest, where their frame is the innermost
 abbrev pub then_inside : Declared → Means → List Frame → Option Breach
 then_inside (made.Breach breach) rest outer = Some breach
 then_inside (made.Frame frame) rest outer = rest (outer ++ frame ∷ [])
 
-abbrev pub block_rest : Option Name → List Means → List Part → Option Name → ℕ → List Frame
+abbrev pub block_rest : Option Name → List Means → List HandlerPart → Option Name → ℕ → List Frame
     → Option Breach
 block_rest label statements handlers end_label line frames =
-    option_or (parts_means statements handlers line frames) (at line (end_state label end_label))
+    option_or (parts_means statements handlers label line frames)
+    (at line (end_state label end_label))
 
-abbrev pub block_means : Option Name → List Declaration → List Means → List Part → Option Name → ℕ
-    → List Frame → Option Breach
+abbrev pub block_means : Option Name → List Declaration → List Means → List HandlerPart
+    → Option Name → ℕ → List Frame → Option Breach
 block_means label declarations statements handlers end_label line frames =
     then_inside (declared label declarations frames [])
     (block_rest label statements handlers end_label line) frames
@@ -123,7 +131,7 @@ Kinds = Type 0 → Type 0 → Type 0 → Type 0 → Type 0 → Type 0 → Type 0
 
 -- statements' kinds, blocks, branches, arms, handlers, loops, ELSE, statements
 abbrev pub Over : Kinds → Type 0
-Over F = F Part Part Means Means Part Part Means Means
+Over F = F Part Part Means Means HandlerPart Part Means Means
 
 -- IF and CASE
 abbrev pub choice_means : List Means → Option Means → ℕ → List Frame → Option Breach
@@ -149,7 +157,7 @@ branch_step b = first b.statements
 abbrev pub arm_step : Over CaseArm-F → Means
 arm_step a = first a.statements
 
-abbrev pub handler_step : Over Handler-F → Part
+abbrev pub handler_step : Over Handler-F → HandlerPart
 handler_step h = handler_means h.conditions h.statements
 
 abbrev pub loop_step : Over Loop-F → Part
@@ -164,22 +172,22 @@ statement_step s = s.kind s.line
 -- ---- whole trees
 
 unfoldable pub in_kind : Returns → StatementKind → Part
-in_kind r = fold-StatementKind Part Part Means Means Part Part Means Means
+in_kind r = fold-StatementKind Part Part Means Means HandlerPart Part Means Means
     (kind_step r) block_step branch_step arm_step handler_step loop_step otherwise_step
     statement_step
 
 unfoldable pub in_block : Returns → Block → Part
-in_block r = fold-Block Part Part Means Means Part Part Means Means
+in_block r = fold-Block Part Part Means Means HandlerPart Part Means Means
     (kind_step r) block_step branch_step arm_step handler_step loop_step otherwise_step
     statement_step
 
 unfoldable pub in_loop : Returns → Loop → Part
-in_loop r = fold-Loop Part Part Means Means Part Part Means Means
+in_loop r = fold-Loop Part Part Means Means HandlerPart Part Means Means
     (kind_step r) block_step branch_step arm_step handler_step loop_step otherwise_step
     statement_step
 
 unfoldable pub in_statement : Returns → Statement → Means
-in_statement r = fold-Statement Part Part Means Means Part Part Means Means
+in_statement r = fold-Statement Part Part Means Means HandlerPart Part Means Means
     (kind_step r) block_step branch_step arm_step handler_step loop_step otherwise_step
     statement_step
 
@@ -194,14 +202,14 @@ arm_view r a = first (map (in_statement r) (out-CaseArm a).statements)
 abbrev pub otherwise_view : Returns → Otherwise → Means
 otherwise_view r o = first (map (in_statement r) (out-Otherwise o).statements)
 
-abbrev pub handler_view : Returns → Handler → Part
+abbrev pub handler_view : Returns → Handler → HandlerPart
 handler_view r h =
     handler_means (out-Handler h).conditions (map (in_statement r) (out-Handler h).statements)
 
 abbrev pub parts_view : Returns → Block → Part
 parts_view r b =
     parts_means (map (in_statement r) (out-Block b).statements)
-    (map (handler_view r) (out-Block b).handlers)
+    (map (handler_view r) (out-Block b).handlers) (out-Block b).label
 
 -- ---- bodies
 

@@ -20,7 +20,7 @@ pub enum FrameKind {
 /// Something around a statement that has a label or variables.
 #[derive(Drop)]
 pub struct Frame {
-    /// Of a routine its name.
+    /// Of a routine its name, of a handler the label of its block.
     pub label: Option<Name>,
     pub kind: FrameKind,
     pub variables: Variables,

@@ -124,14 +124,14 @@ fn declare_found(variables: &mut Variables, result_type: &ResultType) -> Result<
     }
 }
 
-/// The outermost frame of a body.
+/// The outermost frame of a body. FOUND and the variables of triggers hide parameters and columns.
 pub(crate) fn routine_frame(alloc: Global, heading: &Heading<'_>) -> Result<Frame, AllocError>
     ensures { IfOk result (λ frame. frame ≡ spec.routine_frame (spec.routine heading.now)) }
 {
     let mut variables = Variables::new(alloc);
+    declare_found(&mut variables, heading.result)?;
     declare_params(&mut variables, heading.params)?;
     declare_columns(&mut variables, heading.result)?;
-    declare_found(&mut variables, heading.result)?;
     Ok(Frame {
         label: heading.name,
         kind: FrameKind::Routine,
@@ -139,9 +139,10 @@ pub(crate) fn routine_frame(alloc: Global, heading: &Heading<'_>) -> Result<Fram
     })
 }
 
-/// The frame of a handler: SQLSTATE and SQLERRM, which no statement changes.
-pub(crate) fn handler_frame(alloc: Global) -> Result<Frame, AllocError>
-    ensures { IfOk result (λ frame. frame ≡ spec.handler_frame) }
+/// The frame of a handler: SQLSTATE and SQLERRM, which no statement changes, under the label of its
+/// block.
+pub(crate) fn handler_frame(alloc: Global, label: Option<Name>) -> Result<Frame, AllocError>
+    ensures { IfOk result (λ frame. frame ≡ spec.handler_frame label) }
 {
     let constant = Variable {
         kind: VariableKind::Plain,
@@ -151,7 +152,7 @@ pub(crate) fn handler_frame(alloc: Global) -> Result<Frame, AllocError>
     declare_own(&mut variables, "sqlstate", constant)?;
     declare_own(&mut variables, "sqlerrm", constant)?;
     Ok(Frame {
-        label: None,
+        label,
         kind: FrameKind::Handler,
         variables,
     })

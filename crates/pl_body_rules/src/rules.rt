@@ -278,7 +278,8 @@ fn in_parts(
     if breach.is_some() {
         return Ok(breach);
     }
-    in_handlers(alloc, block.handlers.as_slice(), line, returns, frames)
+    let handlers = block.handlers.as_slice();
+    in_handlers(alloc, handlers, &block.label, line, returns, frames)
 }
 
 #[cycle(rules)]
@@ -286,16 +287,17 @@ fn in_parts(
 fn in_handlers(
     alloc: Global,
     handlers: &[Handler],
+    label: &Option<Name>,
     line: u32,
     returns: Returns,
     frames: &mut Frames,
 ) -> Result<Option<Breach>, AllocError>
     ensures is { IfOk result (λ breach. breach
-        ≡ spec.first_on line (map (spec.handler_view returns) handlers.now) frames.old) }
+        ≡ spec.first_on label.now line (map (spec.handler_view returns) handlers.now) frames.old) }
     ensures stays { OnOk result (frames.new ≡ frames.old) }
 {
     for handler in handlers {
-        let breach = in_handler(alloc, handler, line, returns, frames)?;
+        let breach = in_handler(alloc, handler, label, line, returns, frames)?;
         if breach.is_some() {
             return Ok(breach);
         }
@@ -308,19 +310,20 @@ fn in_handlers(
 fn in_handler(
     alloc: Global,
     handler: &Handler,
+    label: &Option<Name>,
     line: u32,
     returns: Returns,
     frames: &mut Frames,
 ) -> Result<Option<Breach>, AllocError>
     ensures is { IfOk result (λ breach. breach
-        ≡ spec.handler_view returns handler.now line frames.old) }
+        ≡ spec.handler_view returns handler.now label.now line frames.old) }
     ensures stays { OnOk result (frames.new ≡ frames.old) }
 {
     let state = caught_state(handler.conditions.as_slice());
     if state.is_some() {
         return Ok(at(line, state));
     }
-    frames.enter(handler_frame(alloc)?)?;
+    frames.enter(handler_frame(alloc, *label)?)?;
     let breach = in_statements(alloc, handler.statements.as_slice(), returns, frames)?;
     frames.leave();
     Ok(breach)

@@ -5,7 +5,7 @@ ghost use Rattle.pl_bodies.specs.declared.simple.Target as declared;
 ghost use Rattle.pl_body_rules.specs.Frames as scope;
 ghost use Rattle.pl_body_rules.specs.Simple as spec;
 
-use crate::{Frame, FrameKind, Variable, VariableKind};
+use crate::{Frame, Variable, VariableKind};
 use pl_base::{Name, State};
 use pl_bodies::{IntoClause, StackedTarget, Target};
 
@@ -31,19 +31,10 @@ pub(crate) fn is_labelled(name: Name, frame: &Frame) -> bool
     }
 }
 
-fn labels_variables(kind: FrameKind) -> bool
-    ensures { result ≡ scope.labels_variables kind }
-{
-    match kind {
-        FrameKind::Routine | FrameKind::Block => true,
-        FrameKind::Loop | FrameKind::Handler => false,
-    }
-}
-
 fn of_label(label: Name, name: Name, frame: &Frame) -> Option<Variable>
     ensures { result ≡ scope.of_label label name frame.now }
 {
-    if labels_variables(frame.kind) && is_labelled(label, frame) {
+    if is_labelled(label, frame) {
         frame.variables.get(name)
     } else {
         None

@@ -16,4 +16,4 @@ invariant-in_arms-loop-arm l =
 
 abbrev pub invariant-in_handlers-loop-handler : goal.invariant-in_handlers-loop-handler
 invariant-in_handlers-loop-handler l =
-    (first_on l.line (map (handler_view l.returns) l.handlers) l.fn.frames ≡ first_on l.line (map (handler_view l.returns) (drop l.handler-index l.handlers)) l.frames) × (l.frames ≡ l.fn.frames)
+    (first_on l.label l.line (map (handler_view l.returns) l.handlers) l.fn.frames ≡ first_on l.label l.line (map (handler_view l.returns) (drop l.handler-index l.handlers)) l.frames) × (l.frames ≡ l.fn.frames)
