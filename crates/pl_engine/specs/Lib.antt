@@ -1,0 +1,6 @@
+pub mod Faults
+pub mod Engines
+pub mod Answers
+pub mod Runs
+pub mod Recorded
+pub mod RecordedLaws

@@ -1,0 +1,89 @@
+//! What statements work on.
+
+ghost use Rattle.std.specs.Prelude.{◌≡◌};
+ghost use Rattle.pl_engine.specs.Engines.{Took, kept, world};
+ghost use Rattle.pl_world.specs.Sessions.{new_world, with_steps};
+
+use crate::call::Call;
+use pl_base::Name;
+use pl_journal::Journal;
+use pl_variables::Frames;
+use std::alloc::Global;
+
+/// What statements work on. It stands for a world.
+#[derive(Drop)]
+pub struct Engine {
+    pub(crate) alloc: Global,
+    pub(crate) journal: Journal,
+    pub(crate) frames: Frames<Call>,
+    /// The steps that are left.
+    pub(crate) steps: u64,
+    /// How many blocks with handlers run their statements, and how many savepoints stand.
+    pub(crate) depth: usize,
+    /// The session is in a transaction block.
+    pub(crate) in_block: bool,
+    /// The tables that running changes write, the newest last.
+    pub(crate) changing: Vec<Name>,
+}
+
+impl Engine {
+    /// No call runs, and no step is left.
+    pub fn new(alloc: Global, journal: Journal) -> Engine
+        requires at_rest { journal.last ≡ journal.now }
+        ensures { world result ≡ new_world journal.now }
+    {
+        Engine {
+            alloc,
+            journal,
+            frames: Frames::new(alloc, Call::none(alloc)),
+            steps: 0,
+            depth: 0,
+            in_block: false,
+            changing: Vec::new(alloc),
+        }
+    }
+
+    /// The database, and that of the last commit.
+    pub fn journal(&self) -> &Journal
+        ensures now { result.now.now ≡ (world self.now).database }
+        ensures last { result.now.last ≡ (world self.now).last }
+    {
+        &self.journal
+    }
+
+    /// The steps that are left.
+    pub fn steps(&self) -> u64
+        ensures { result ≡ (world self.now).steps }
+    {
+        self.steps
+    }
+
+    /// A new command begins, which may take so many steps.
+    pub fn give_steps(&mut self, budget: u64)
+        ensures world { world self.new ≡ with_steps budget (world self.old) }
+        ensures keeps { kept self.new ≡ kept self.old }
+    {
+        self.steps = budget;
+    }
+
+    /// Takes a step, if one is left.
+    pub fn take_step(&mut self) -> bool
+        ensures took { Took result self.old self.new }
+        ensures keeps { kept self.new ≡ kept self.old }
+    {
+        if self.steps == 0 {
+            return false;
+        }
+        self.steps -= 1;
+        true
+    }
+
+    /// Goes back to the last commit.
+    pub fn reset(&mut self)
+        ensures world { world self.new
+            ≡ record (world self.old) { database = (world self.old).last } }
+        ensures keeps { kept self.new ≡ kept self.old }
+    {
+        self.journal.reset();
+    }
+}

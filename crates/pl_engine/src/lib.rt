@@ -1,0 +1,25 @@
+//! What statements of bodies are run by: the engine, which stands for a world, the port that takes
+//! what is printed and committed, and how the answers of functions over both stand to a run.
+#![tactic(auto)]
+
+mod call;
+mod engine;
+mod port;
+mod raising;
+mod recorder;
+mod runner;
+mod spot;
+mod stop;
+mod telling;
+
+pub use call::Call;
+pub use engine::Engine;
+pub use port::{Port, PortFail};
+pub use recorder::Recorder;
+pub use runner::{Runner, Task, all};
+pub use spot::Spot;
+pub use stop::Stop;
+pub use telling::{commit, say};
+
+#[cfg(test)]
+mod tests;
