@@ -1,0 +1,10 @@
+mod Goes
+mod Parts
+mod Rolled
+pub mod Values
+mod Products
+mod Items
+mod Draws
+mod Selected
+pub mod Rows
+pub mod Told
