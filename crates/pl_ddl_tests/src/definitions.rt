@@ -10,12 +10,12 @@ use pl_sql_parse::parse_command;
 use pl_tree::{Command, Definition};
 use std::alloc::Global;
 
-fn word(text: &str) -> Result<Name, Memory> {
+pub(crate) fn word(text: &str) -> Result<Name, Memory> {
     Name::of(text).ok_or(Memory)
 }
 
 // The table `u` of the integer `k`.
-fn catalog(alloc: Global) -> Result<Catalog, Memory> {
+pub(crate) fn catalog(alloc: Global) -> Result<Catalog, Memory> {
     let mut columns = List::new(alloc);
     columns.push(Column {
         name: word("k")?,
@@ -36,7 +36,7 @@ fn catalog(alloc: Global) -> Result<Catalog, Memory> {
     }
 }
 
-fn write_state(out: &mut Words, state: &State) {
+pub(crate) fn write_state(out: &mut Words, state: &State) {
     out.push(&state.code);
 }
 
@@ -56,7 +56,7 @@ fn write_done(out: &mut Words, done: &Defined) {
     }
 }
 
-fn write_fail(out: &mut Words, fail: DefineFail) {
+pub(crate) fn write_fail(out: &mut Words, fail: DefineFail) {
     match fail {
         DefineFail::State(state) => write_state(out, &state),
         DefineFail::Memory => out.push(b"no memory"),
@@ -89,7 +89,7 @@ fn write_command(out: &mut Words, alloc: Global, catalog: &Catalog, command: &Co
     }
 }
 
-fn command_of(alloc: Global, text: &str) -> Option<Held<Command>> {
+pub(crate) fn command_of(alloc: Global, text: &str) -> Option<Held<Command>> {
     let Ok(tokens) = lex(alloc, text) else {
         return None;
     };

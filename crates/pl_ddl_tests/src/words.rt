@@ -1,8 +1,9 @@
-//! Tables as words.
+//! Tables and functions as words.
 
 use pl_base::{Comparison, List, Operator, Ty, Value};
-use pl_catalog::{Column, Rule, RuleKind, TableDef};
+use pl_catalog::{Column, Routine, Rule, RuleKind, TableDef};
 use pl_resolved::{RExpr, RPair};
+use pl_tree::{Param, ResultType};
 use std::alloc::Global;
 
 /// A text that is written bit by bit. No call fails: where there was no memory for a bit, the text is
@@ -59,7 +60,8 @@ fn type_name(ty: &Ty) -> &'static [u8] {
         Ty::Big => b"bigint",
         Ty::Text => b"text",
         Ty::Bool => b"boolean",
-        _ => b"no type of a column",
+        Ty::Void => b"void",
+        _ => b"no type of a value",
     }
 }
 
@@ -187,4 +189,35 @@ pub(crate) fn write_table(out: &mut Words, table: &TableDef) {
         write_rule(out, rule);
         before = b", ";
     }
+}
+
+fn write_param(out: &mut Words, param: &Param) {
+    if let Some(name) = &param.name {
+        out.push(name.as_bytes());
+        out.push(b" ");
+    }
+    out.push(type_name(&param.ty));
+}
+
+fn write_result(out: &mut Words, given: &ResultType) {
+    match given {
+        ResultType::One(ty) => out.push(type_name(ty)),
+        _ => out.push(b"no single value"),
+    }
+}
+
+/// A function with its parameters and its result.
+pub(crate) fn write_routine(out: &mut Words, routine: &Routine) {
+    out.push(routine.name.as_bytes());
+    out.push(b"(");
+    let mut is_first = true;
+    for param in routine.heading.params.as_slice() {
+        if !is_first {
+            out.push(b", ");
+        }
+        is_first = false;
+        write_param(out, param);
+    }
+    out.push(b") ");
+    write_result(out, &routine.heading.result);
 }

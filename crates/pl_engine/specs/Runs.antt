@@ -16,8 +16,8 @@ abbrev pub task_of : Asked → Task
 task_of (asked.Statement s) = statement s.now
 task_of (asked.Body b) = body b.now
 
--- where there is room for the steps that are left, and the port fits, it may be called, answers what
--- the task does, and keeps what each statement keeps
+-- where there is room for the steps that are left, and the port fits, it may be called, answers
+-- what the task does, and keeps what each statement keeps
 pub record Runs {P : Type 0} (port : Ghosts P) (room : ℕ)
     (pre : ℕ → MutBor Engine → MutBor P → Asked → Type 0)
     (post : ℕ → MutBor Engine → MutBor P → Asked → Result Outcome Stop → MutBor Engine
