@@ -1,0 +1,5 @@
+pub mod Equations
+pub mod Sound
+pub mod Complete
+pub mod OneTree
+pub mod Turned
