@@ -20,3 +20,6 @@ pub use runner::{Runner, Task, all};
 pub use spot::Spot;
 pub use stop::Stop;
 pub use telling::{commit, say};
+
+#[cfg(test)]
+mod tests;
