@@ -1,6 +1,7 @@
 //! Definitions against the table.
 
 use crate::cases::CASES;
+use crate::routines::write_routine_definition;
 use crate::words::{Words, write_table};
 use pl_base::{Held, List, Memory, Name, State, Txt, Ty};
 use pl_catalog::{Catalog, Column, Object, TableDef, Which};
@@ -82,14 +83,17 @@ fn write_definition(
 
 fn write_command(out: &mut Words, alloc: Global, catalog: &Catalog, command: &Command) {
     match command {
-        Command::Define { definition, source } => {
-            write_definition(out, alloc, catalog, definition, source);
-        }
+        Command::Define { definition, source } => match definition {
+            Definition::CreateRoutine(_) | Definition::DropRoutine { .. } => {
+                write_routine_definition(out, alloc, catalog, definition, source);
+            }
+            _ => write_definition(out, alloc, catalog, definition, source),
+        },
         _ => out.push(b"no definition"),
     }
 }
 
-pub(crate) fn command_of(alloc: Global, text: &str) -> Option<Held<Command>> {
+fn command_of(alloc: Global, text: &str) -> Option<Held<Command>> {
     let Ok(tokens) = lex(alloc, text) else {
         return None;
     };
@@ -117,8 +121,12 @@ fn is_told(alloc: Global, catalog: &Catalog, line: &str) -> bool {
 }
 
 // The first line whose definition does something else.
-fn other(alloc: Global, table: &'static str) -> Option<&'static str> {
-    let Ok(catalog) = catalog(alloc) else {
+pub(crate) fn other(
+    alloc: Global,
+    catalog: Result<Catalog, Memory>,
+    table: &'static str,
+) -> Option<&'static str> {
+    let Ok(catalog) = catalog else {
         return Some("no catalogue");
     };
     for line in table.lines() {
@@ -131,5 +139,6 @@ fn other(alloc: Global, table: &'static str) -> Option<&'static str> {
 
 #[test]
 fn definitions_do_what_the_table_says(rt: HostRuntime) {
-    assert_eq!(rt; other(rt.alloc(), CASES), None);
+    let alloc = rt.alloc();
+    assert_eq!(rt; other(alloc, catalog(alloc), CASES), None);
 }

@@ -1,13 +1,13 @@
 //! Definitions of functions against their table.
 
-use crate::definitions::{catalog, command_of, word, write_fail, write_state};
+use crate::definitions::{catalog, other, word, write_fail, write_state};
 use crate::routine_cases::ROUTINE_CASES;
 use crate::words::{Words, write_routine};
 use pl_base::{Held, List, Memory, Name, Txt, Ty};
 use pl_bodies::{Block, Body};
 use pl_catalog::{Catalog, Heading, Object, Routine, RoutineBody};
 use pl_routine_ddl::{RoutineDefined, create_routine, drop_routine, form_refusal};
-use pl_tree::{Command, Definition, NewRoutine, Param, ResultType, RoutineKind, Way};
+use pl_tree::{Definition, NewRoutine, Param, ResultType, RoutineKind, Way};
 use pl_typing::ScopeFail;
 use std::alloc::Global;
 
@@ -91,15 +91,16 @@ fn created(
     routine: &NewRoutine,
     source: &Txt,
 ) -> Result<Held<RoutineDefined>, ScopeFail> {
-    if let Some(state) = form_refusal(routine) {
-        return Err(ScopeFail::State(state));
+    match form_refusal(routine) {
+        Some(state) => return Err(ScopeFail::State(state)),
+        None => {}
     }
     let text = source.copy(alloc)?;
     let body = RoutineBody::new(alloc, empty_body(alloc))?;
     create_routine(alloc, catalog, routine, text, body).map(Held::new)
 }
 
-fn write_definition(
+pub(crate) fn write_routine_definition(
     out: &mut Words,
     alloc: Global,
     catalog: &Catalog,
@@ -123,44 +124,8 @@ fn write_definition(
     }
 }
 
-// What the definition does, as the table writes it.
-fn verdict(alloc: Global, catalog: &Catalog, text: &str) -> Words {
-    let mut out = Words::new(alloc);
-    let Some(command) = command_of(alloc, text) else {
-        out.push(b"no command");
-        return out;
-    };
-    match command.get() {
-        Command::Define { definition, source } => {
-            write_definition(&mut out, alloc, catalog, definition, source);
-        }
-        _ => out.push(b"no definition"),
-    }
-    out
-}
-
-fn is_told(alloc: Global, catalog: &Catalog, line: &str) -> bool {
-    let line = line.strip_prefix("! ").unwrap_or(line);
-    match line.split_once("  ->  ") {
-        Some((text, expected)) => verdict(alloc, catalog, text).text() == expected.as_bytes(),
-        None => line.is_empty() || line.starts_with("--"),
-    }
-}
-
-// The first line whose definition does something else.
-fn other(alloc: Global, table: &'static str) -> Option<&'static str> {
-    let Ok(catalog) = with_function(alloc) else {
-        return Some("no catalogue");
-    };
-    for line in table.lines() {
-        if !is_told(alloc, &catalog, line) {
-            return Some(line);
-        }
-    }
-    None
-}
-
 #[test]
 fn definitions_of_functions_do_what_the_table_says(rt: HostRuntime) {
-    assert_eq!(rt; other(rt.alloc(), ROUTINE_CASES), None);
+    let alloc = rt.alloc();
+    assert_eq!(rt; other(alloc, with_function(alloc), ROUTINE_CASES), None);
 }

@@ -3,12 +3,12 @@ use Rattle.std.proofs.Common.{◌≡◌, ◌≤◌, ◌+◌, ◌∙◌, ℕ, suc
 use Rattle.std.specs.Result.{IsErr, IsErrAnd}
 use Rattle.pl_base.specs.States.{QUERY_CANCELED}
 use Rattle.pl_base.specs.declared.fail.Fail.{Fail}
-use Rattle.pl_engine.specs.Answers.{Answers, Blame, Cut, Done, Partway, Stopped, Told, at, between}
+use Rattle.pl_engine.specs.Answers.{Answers, Cut, Done, Partway, Stopped, Told, at, between}
 use Rattle.pl_engine.specs.Engines.{Quiet, Took, stepped_in, world}
 use Rattle.pl_engine.specs.declared.engine.Engine.{Engine}
 use Rattle.pl_engine.specs.declared.port.Port.{Ghosts}
 use Rattle.pl_engine.specs.declared.stop.Stop.{Stop}
-use Rattle.pl_engine.specs.declared.stop.Stop.TheVariants.{Disk, Say, Memory}
+use Rattle.pl_engine.specs.declared.stop.Stop.TheVariants.{Memory}
 use Rattle.pl_meaning.proofs.Lent.{last_commit-append}
 use Rattle.pl_meaning.specs.Trace as trace
 use Rattle.pl_meaning.specs.Trace.{last_commit}
@@ -176,19 +176,10 @@ module _ {P : Type 0} {port : Ghosts P} (law : Lawful port) where
   cut_more more (between is t) = between is t
   cut_more more (at e rest mid is t tried blame) = at e (rest ++ more) mid (ap (λ (xs : List trace.Event). xs ++ more) is) t tried blame
 
-  blame_behind : (stop : Stop) (e : trace.Event) (p m q : P) → (port.disk_faults p ≤ port.disk_faults m) × (port.say_faults p ≤ port.say_faults m) → Blame port stop e m q → Blame port stop e p q
-  blame_behind Disk (trace.Said lines) p m q le b = b
-  blame_behind Disk (trace.Failed lines) p m q le b = b
-  blame_behind Disk (trace.Committed db) p m q le b = let l = le.0 in omega (arith, l, b)
-  blame_behind Say (trace.Said lines) p m q le b = let l = le.1 in omega (arith, l, b)
-  blame_behind Say (trace.Failed lines) p m q le b = b
-  blame_behind Say (trace.Committed db) p m q le b = b
-  blame_behind Memory e p m q le b = b
-
   cut_behind : {stop : Stop} {db : Database} {a taken left : List trace.Event} {p m q : P} → port.took db a p m → Cut port stop (last_commit a db) taken left m q → Cut port stop db (a ++ taken) left p q
   cut_behind {stop} {db} {a} {taken} {left} {p} {m} {q} t (between is u) = between is (law.joins db a taken p m q t u)
   cut_behind {stop} {db} {a} {taken} {left} {p} {m} {q} t (at e rest mid is u tried blame) = at e rest mid is (law.joins db a taken p m mid t u)
-      (subst (λ (d : Database). port.tried d e mid q) (sym (last_commit-append a taken db)) tried) (blame_behind stop e p m q (law.rises db a p m t) blame)
+      (subst (λ (d : Database). port.tried d e mid q) (sym (last_commit-append a taken db)) tried) blame
 
   -- the engine stopped within the rest
   pub stopped : {O : Type 0} {whole rest : Ran O} {stop : Stop} {old mid : Engine} {p m q : P} → Partway port whole rest old mid p m → Stopped port rest stop mid m q → Stopped port whole stop old p q

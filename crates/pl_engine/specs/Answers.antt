@@ -50,7 +50,7 @@ module _ {P : Type 0} (port : Ghosts P) where
     between : stop ≡ Memory → port.took db taken p q → Cut stop db taken left p q
     at : (e : trace.Event) (rest : List trace.Event) (mid : P) → left ≡ e ∷ rest
         → port.took db taken p mid → port.tried (trace.last_commit taken db) e mid q
-        → Blame stop e p q → Cut stop db taken left p q
+        → Blame stop e mid q → Cut stop db taken left p q
 
   -- the port has taken a front of what is printed and committed, and at most one more was tried
   pub record Stopped {O : Type 0} (ran : Ran O) (stop : Stop) (old : Engine) (p q : P)

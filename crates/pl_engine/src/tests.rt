@@ -2,7 +2,7 @@
 
 ghost use Rattle.std.specs.Prelude.{◌≡◌};
 
-use crate::{Engine, Recorder, Runner, Spot, Stop, Task, all, commit, say};
+use crate::{Engine, Recorder, Spot, Stop, commit, say};
 use pl_base::{Held, Message, Origin, State, Txt};
 use pl_journal::Journal;
 use pl_reading::read_definition;

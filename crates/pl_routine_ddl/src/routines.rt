@@ -1,6 +1,6 @@
 //! What CREATE FUNCTION and DROP FUNCTION do.
 
-ghost use Rattle.std.specs.Prelude.{◌≡◌, IfOk};
+ghost use Rattle.std.specs.Prelude.{◌≡◌, IfOk, None};
 ghost use Rattle.std.specs.Option.{option_copied};
 ghost use Rattle.pl_catalog.specs.Objects.{tables_in};
 ghost use Rattle.pl_routine_ddl.specs.Routines as spec;
@@ -218,7 +218,7 @@ fn as_routine(
 }
 
 /// The routine that a definition of this text and this body makes, in the place of the one of its
-/// name if there is one, or its first refusal. What `form_refusal` refuses comes before this.
+/// name if there is one, or its first refusal. What `form_refusal` refuses was refused before.
 pub fn create_routine(
     alloc: Global,
     catalog: &Catalog,
@@ -226,6 +226,7 @@ pub fn create_routine(
     text: Txt,
     body: RoutineBody,
 ) -> Result<RoutineDefined, ScopeFail>
+    requires formed { spec.form_refusal routine.now ≡ None }
     ensures { Gives result (spec.create_routine catalog.now.objects routine.now text body) }
 {
     let old = catalog.routine(routine.name);
