@@ -13,9 +13,9 @@ use Rattle.pl_catalog.specs.declared.entries.Step.{Step}
 use Rattle.pl_catalog.specs.declared.entries.Step.TheVariants.{Added}
 use Rattle.pl_catalog.specs.declared.catalog.CatalogFail.{CatalogFail}
 use Rattle.pl_catalog.specs.declared.catalog.CatalogFail.TheVariants as fail
-use Rattle.pl_catalog.specs.Entries.{kept, there, is_at, with_entry, gone, undo_step}
-use Rattle.pl_catalog.specs.Objects.{is_called, object_called, without}
-use Rattle.pl_catalog.specs.Refusals.{Answers, refusal_beside, refusal_of}
+use Rattle.pl_catalog.specs.Entries.{kept, there, is_at, with_entry, gone, holding, undo_step}
+use Rattle.pl_catalog.specs.Objects.{is_called, object_called, exchanged, without}
+use Rattle.pl_catalog.specs.Refusals.{Answers, refusal_beside, refusal_of, refusal_without}
 
 no_place : (n m : ℕ) → (let o : Option ℕ = cond (nat_lt n m) (Some n) None in o ≡ None) → m ≤ n
 no_place n m is = grind (arith, nat_tests)
@@ -36,6 +36,14 @@ pub entry_past : (es : List Entry) (at : ℕ) (change : Entry → Entry) → len
 entry_past [] at change le = refl
 entry_past (e ∷ es) zero change le = absurd (omega (arith, le))
 entry_past (e ∷ es) (suc at) change le = ap (λ (gs : List Entry). e ∷ gs) (entry_past es at change (omega (arith, le)))
+
+-- the object that an entry had is put back
+pub held_again : (es : List Entry) (at : ℕ) (e : Entry) (o : Object) → slice_get es at ≡ Some e → with_entry (with_entry es at (holding o)) at (holding e.object) ≡ es
+held_again [] at e o is = refl
+held_again (f ∷ es) zero e o is =
+    let same : e ≡ f = (let h : Some e ≡ Some f = sym is in cc) in
+    ap (λ (g : Entry). (record { object = g.object; is_there = f.is_there }) ∷ es) same
+held_again (f ∷ es) (suc at) e o is = ap (λ (gs : List Entry). f ∷ gs) (held_again es at e o is)
 
 pub there_append : (es : List Entry) (o : Object) → there (es ++ (record { object = o; is_there = true }) ∷ []) ≡ there es ++ o ∷ []
 there_append [] o = refl
@@ -94,6 +102,21 @@ module _ (w : Which) where
       (elim (is_at w e) as (λ (b : Bool). (suc at ≡ cond (not b) (rest_of es) 0) → e ∷ with_entry (with_entry es at (gone false)) at (gone true) ≡ e ∷ es)
       [ true ↦ λ h. absurd (omega (arith, h)) | false ↦ λ h. ap (λ (l : List Entry). e ∷ l) (back_at es at (omega (arith, h)) (omega (arith, below))) ]) is
 
+  exchanged_at : (o : Object) (es : List Entry) (at : ℕ) → at ≡ position_or_len (is_at w) es → at < length es → there (with_entry es at (holding o)) ≡ exchanged w o (there es)
+  exchanged_at o [] at is below = absurd (omega (arith, below))
+  exchanged_at o (e ∷ es) zero is below =
+      (elim e.is_there as (λ (b : Bool). (0 ≡ cond (not (b && is_called w e.object)) (rest_of es) 0) → kept b o (there es) ≡ exchanged w o (kept b e.object (there es))) [
+        | true ↦ (elim (is_called w e.object) as (λ (s : Bool). (0 ≡ cond (not s) (rest_of es) 0) → o ∷ there es ≡ cond s (o ∷ there es) (e.object ∷ exchanged w o (there es)))
+            [ true ↦ λ h. refl | false ↦ λ h. absurd (omega (arith, h)) ])
+        | false ↦ λ h. absurd (omega (arith, h))
+      ]) is
+  exchanged_at o (e ∷ es) (suc at) is below =
+      (elim e.is_there as (λ (b : Bool). (suc at ≡ cond (not (b && is_called w e.object)) (rest_of es) 0) → kept b e.object (there (with_entry es at (holding o))) ≡ exchanged w o (kept b e.object (there es))) [
+        | true ↦ (elim (is_called w e.object) as (λ (s : Bool). (suc at ≡ cond (not s) (rest_of es) 0) → e.object ∷ there (with_entry es at (holding o)) ≡ cond s (o ∷ there es) (e.object ∷ exchanged w o (there es)))
+            [ true ↦ λ h. absurd (omega (arith, h)) | false ↦ λ h. ap (λ (l : List Object). e.object ∷ l) (exchanged_at o es at (omega (arith, h)) (omega (arith, below))) ])
+        | false ↦ λ h. exchanged_at o es at (omega (arith, h)) (omega (arith, below))
+      ]) is
+
   pub absent : (es : List Entry) → position (is_at w) es ≡ None → object_called w (there es) ≡ None
   absent es is = has_none es (no_place _ _ is)
 
@@ -105,6 +128,9 @@ module _ (w : Which) where
 
   pub removed : (es : List Entry) (at : ℕ) → position (is_at w) es ≡ Some at → there (with_entry es at (gone false)) ≡ without w (there es)
   removed es at is = let h = is_place (position_or_len (is_at w) es) (length es) at is in gone_at es at (sym h.0) (omega (arith, h.0, h.1))
+
+  pub replaced : (o : Object) (es : List Entry) (at : ℕ) → position (is_at w) es ≡ Some at → there (with_entry es at (holding o)) ≡ exchanged w o (there es)
+  replaced o es at is = let h = is_place (position_or_len (is_at w) es) (length es) at is in exchanged_at o es at (sym h.0) (omega (arith, h.0, h.1))
 
   pub back_removed : (es : List Entry) (at : ℕ) → position (is_at w) es ≡ Some at → with_entry (with_entry es at (gone false)) at (gone true) ≡ es
   back_removed es at is = let h = is_place (position_or_len (is_at w) es) (length es) at is in back_at es at (sym h.0) (omega (arith, h.0, h.1))
@@ -124,6 +150,16 @@ module _ (w : Which) where
   pub free : (es : List Entry) (r : Option ℕ) → position (is_at w) es ≡ r → is_some r ≡ false → refusal_beside (object_called w (there es)) ≡ None
   free es None is none = ap refusal_beside (absent es is)
   free es (Some at) is none = absurd cc
+
+  missing_of : (o : Option Object) → is_some o ≡ true → refusal_without o ≡ None
+  missing_of None is = absurd cc
+  missing_of (Some o) is = refl
+
+  pub replaceable : (es : List Entry) (at : ℕ) → position (is_at w) es ≡ Some at → refusal_without (object_called w (there es)) ≡ None
+  replaceable es at is = missing_of (object_called w (there es)) (is_there es at is)
+
+  pub missing : (es : List Entry) → position (is_at w) es ≡ None → refusal_without (object_called w (there es)) ≡ Some fail.Absent
+  missing es is = ap refusal_without (absent es is)
 
   dependent_of : (o : Option Object) (name : List ℕ) → is_some o ≡ true → refusal_of o (Some name) ≡ Some (fail.Dependent name)
   dependent_of None name is = absurd cc

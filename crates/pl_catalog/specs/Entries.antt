@@ -5,7 +5,7 @@ use Rattle.pl_catalog.specs.declared.object.Object.{Object}
 use Rattle.pl_catalog.specs.declared.object.Which.{Which}
 use Rattle.pl_catalog.specs.declared.entries.Entry.{Entry}
 use Rattle.pl_catalog.specs.declared.entries.Step.{Step}
-use Rattle.pl_catalog.specs.declared.entries.Step.TheVariants.{Added, Dropped}
+use Rattle.pl_catalog.specs.declared.entries.Step.TheVariants.{Added, Dropped, Replaced}
 use Rattle.pl_catalog.specs.Objects.{is_called}
 
 abbrev pub kept : Bool → Object → List Object → List Object
@@ -29,6 +29,10 @@ with_entry (e ∷ es) (suc at) change = e ∷ with_entry es at change
 abbrev pub gone : Bool → Entry → Entry
 gone is_there e = record { object = e.object; is_there = is_there }
 
+abbrev pub holding : Object → Entry → Entry
+holding o e = record { object = o; is_there = e.is_there }
+
 abbrev pub undo_step : Step → List Entry → List Entry
 undo_step Added es = take (length es - 1) es
 undo_step (Dropped at) es = with_entry es at (gone true)
+undo_step (Replaced at old) es = with_entry es at (holding old)

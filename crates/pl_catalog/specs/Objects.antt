@@ -47,6 +47,11 @@ abbrev pub without : Which → List Object → List Object
 without w [] = []
 without w (o ∷ os) = if is_called w o then os else o ∷ without w os
 
+-- this object in the place of the one that is found so
+abbrev pub exchanged : Which → Object → List Object → List Object
+exchanged w new [] = []
+exchanged w new (o ∷ os) = if is_called w o then new ∷ os else o ∷ exchanged w new os
+
 abbrev pub as_table : Object → Option TableDef
 as_table (object.Table t) = Some t
 as_table (object.Routine r) = None

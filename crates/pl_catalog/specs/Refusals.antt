@@ -15,6 +15,14 @@ refusal_beside (Some o) = Some fail.Taken
 abbrev pub add_refusal : Which → List Object → Option CatalogFail
 add_refusal w os = refusal_beside (object_called w os)
 
+-- an object is replaced where it is there
+abbrev pub refusal_without : Option Object → Option CatalogFail
+refusal_without None = Some fail.Absent
+refusal_without (Some o) = None
+
+abbrev pub replace_refusal : Which → List Object → Option CatalogFail
+replace_refusal w os = refusal_without (object_called w os)
+
 -- an object is dropped where it is there, and no other one needs it
 abbrev pub refusal_of : Option Object → Option (List ℕ) → Option CatalogFail
 refusal_of None dependent = Some fail.Absent

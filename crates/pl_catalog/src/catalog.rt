@@ -3,13 +3,14 @@
 ghost use Rattle.std.specs.Prelude.{◌≡◌, ◌∷◌, ◌++◌, ◌-◌, [], length, take, OnOk, OnErr};
 ghost use Rattle.std.specs.Option.{option_copied};
 ghost use Rattle.pl_history.specs.History.{last_or};
-ghost use Rattle.pl_catalog.specs.Objects.{routine_named, routines_in};
+ghost use Rattle.pl_catalog.specs.Objects.{exchanged, routine_named, routines_in};
 ghost use Rattle.pl_catalog.specs.Objects.{table_named, tables_in, which_of, without};
-ghost use Rattle.pl_catalog.specs.Refusals.{Answers, add_refusal, drop_refusal};
+ghost use Rattle.pl_catalog.specs.Refusals.{Answers, add_refusal, drop_refusal, replace_refusal};
 
 use crate::dependents::first_dependent;
 use crate::entries::{
-    Entry, Step, bring_back, place_of, pop_entry, purge, routine_among, table_among, take_out,
+    Entry, Step, bring_back, give_back, place_of, pop_entry, purge, routine_among, swap_object,
+    table_among, take_out,
 };
 use crate::{Object, Objects, Routine, TableDef, Which};
 use pl_base::{Held, Name};
@@ -125,6 +126,26 @@ impl Catalog {
         Ok(())
     }
 
+    /// Puts the object in the place of the one of its kind and name. Absent where none is there.
+    pub fn replace(&mut self, object: Object) -> Result<(), CatalogFail>
+        ensures answers { Answers result (replace_refusal (which_of object) self.old.objects) }
+        ensures ok { OnOk result (self.new.objects
+            ≡ exchanged (which_of object) object self.old.objects) }
+        ensures past { OnOk result (self.new.past ≡ self.old.past ++ self.old.objects ∷ []) }
+        ensures err { OnErr result (self.new ≡ self.old) }
+    {
+        let object = Held::new(object);
+        match place_of(self.entries.as_slice(), &object.get().which()) {
+            None => Err(CatalogFail::Absent),
+            Some(at) => {
+                self.steps.reserve(1)?;
+                let old = swap_object(&mut self.entries, at, object.into_inner());
+                self.steps.push_reserved(Step::Replaced { at, old });
+                Ok(())
+            }
+        }
+    }
+
     /// Takes out this one object; a table's triggers stay. Absent where it isn't there, Dependent
     /// where another object needs it.
     pub fn drop_object(&mut self, which: Which) -> Result<(), CatalogFail>
@@ -155,6 +176,7 @@ impl Catalog {
         match self.steps.pop() {
             Some(Step::Added) => pop_entry(&mut self.entries),
             Some(Step::Dropped(at)) => bring_back(&mut self.entries, at),
+            Some(Step::Replaced { at, old }) => give_back(&mut self.entries, at, old),
             None => {}
         }
     }

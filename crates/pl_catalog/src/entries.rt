@@ -4,11 +4,12 @@ ghost use Rattle.std.specs.Prelude.{◌≡◌, ◌<◌, ◌-◌, ◌∷◌, [], 
 ghost use Rattle.std.specs.Prelude.{IfNone, IfSome};
 ghost use Rattle.std.specs.List.{position};
 ghost use Rattle.std.specs.Option.{option_copied};
-ghost use Rattle.pl_catalog.specs.Entries.{gone, is_at, there, with_entry};
+ghost use Rattle.pl_catalog.specs.Entries.{gone, holding, is_at, there, with_entry};
 ghost use Rattle.pl_catalog.specs.Objects.{routine_named, routines_in, table_named, tables_in};
 
 use crate::{Object, Routine, TableDef, Which};
 use pl_base::Name;
+use std::mem;
 
 /// An object, or where one was.
 #[derive(Drop)]
@@ -18,12 +19,14 @@ pub struct Entry {
 }
 
 // How a change is undone.
-#[derive(Clone, Copy)]
+#[derive(Drop)]
 pub enum Step {
     /// The last entry goes.
     Added,
     /// The object of the entry at this place is there again.
     Dropped(usize),
+    /// The entry at this place has this object again.
+    Replaced { at: usize, old: Object },
 }
 
 /// The place of the object that is found by this. None where there is none.
@@ -99,6 +102,24 @@ pub(crate) fn bring_back(entries: &mut Vec<Entry>, at: usize)
 {
     if at < entries.len() {
         entries[at].is_there = true;
+    }
+}
+
+/// Gives the entry at this place another object, and answers the one that it had.
+pub(crate) fn swap_object(entries: &mut Vec<Entry>, at: usize, object: Object) -> Object
+    requires { at < length entries.old.items }
+    ensures entries { entries.new.items ≡ with_entry entries.old.items at (holding object) }
+    ensures back { with_entry entries.new.items at (holding result) ≡ entries.old.items }
+{
+    mem::replace(&mut entries[at].object, object)
+}
+
+/// Gives the entry at this place, if there is one, this object.
+pub(crate) fn give_back(entries: &mut Vec<Entry>, at: usize, object: Object)
+    ensures { entries.new.items ≡ with_entry entries.old.items at (holding object) }
+{
+    if at < entries.len() {
+        entries[at].object = object;
     }
 }
 

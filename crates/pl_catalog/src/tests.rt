@@ -20,9 +20,13 @@ fn table(alloc: Global, name: Name) -> Result<Object, AllocError> {
 }
 
 fn routine(alloc: Global, name: Name) -> Result<Object, AllocError> {
+    routine_of(alloc, name, b"a routine")
+}
+
+fn routine_of(alloc: Global, name: Name, text: &[u8]) -> Result<Object, AllocError> {
     Ok(Object::Routine(Routine {
         name,
-        text: Txt::from_slice(alloc, b"a routine")?,
+        text: Txt::from_slice(alloc, text)?,
         heading: Heading {
             kind: RoutineKind::Function,
             params: List::new(alloc),
@@ -192,5 +196,30 @@ fn objects_are_lent_in_order(rt: HostRuntime) -> Result<(), Fail> {
     assert!(rt; lends(&mut objects, t));
     assert!(rt; lends(&mut objects, f));
     assert!(rt; objects.lend().is_none());
+    Ok(())
+}
+
+// Whether the routine of this name was made by this text.
+fn is_made_by(catalog: &Catalog, name: Name, text: &[u8]) -> bool {
+    match catalog.routine(name) {
+        Some(routine) => routine.text.as_bytes() == text,
+        None => false,
+    }
+}
+
+#[test]
+fn a_replaced_object_keeps_its_place(rt: HostRuntime) -> Result<(), Fail> {
+    let alloc = rt.alloc();
+    let mut catalog = filled(alloc)?;
+    let (t, f, g) = (named("t")?, named("f")?, named("g")?);
+    assert!(rt; catalog.replace(routine_of(alloc, f, b"another")?).is_ok());
+    assert!(rt; is_made_by(&catalog, f, b"another"));
+    let mut objects = catalog.objects();
+    assert!(rt; lends(&mut objects, t));
+    assert!(rt; lends(&mut objects, f));
+    assert!(rt; lends(&mut objects, g));
+    catalog.undo();
+    assert!(rt; is_made_by(&catalog, f, b"a routine"));
+    assert!(rt; matches!(catalog.replace(table(alloc, f)?), Err(CatalogFail::Absent)));
     Ok(())
 }
