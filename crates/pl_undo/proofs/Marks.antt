@@ -80,6 +80,9 @@ on_err (Err e) f p = f p
 pub objects_changed : (old new : Catalogue) → new.past ≡ old.past ++ old.objects ∷ [] → objects_of new ≡ changed new.objects (objects_of old)
 objects_changed old new past = ap (λ (p : List (List Object)). let h : History (List Object) = record { current = new.objects; past = p } in h) past
 
+pub objects_by : {B E : Type 0} (r : Result B E) (old new : Catalogue) → OnOk r (new.past ≡ old.past ++ old.objects ∷ []) → OnErr r (new ≡ old) → Keeps (objects_of old) (objects_of new)
+objects_by r old new ok err = keeps_by r (objects_of old) (objects_of new) new.objects (on_ok r (objects_changed old new) ok) (on_err r (ap objects_of) err)
+
 pub objects_undone : (old new : Catalogue) → new.objects ≡ last_or old.objects old.past → new.past ≡ take (length old.past - 1) old.past → objects_of new ≡ back (objects_of old)
 objects_undone old new objects past =
     ap (λ (os : List Object). let h : History (List Object) = record { current = os; past = new.past } in h) objects

@@ -8,7 +8,7 @@ use Rattle.pl_catalog.specs.declared.object.RuleKind.TheVariants as kind
 use Rattle.pl_catalog.specs.declared.object.TableDef.{TableDef}
 use Rattle.pl_catalog.specs.declared.object.Which.{Which}
 use Rattle.pl_catalog.specs.declared.object.Which.TheVariants as which
-use Rattle.pl_catalog.specs.Objects.{tables_in, without}
+use Rattle.pl_catalog.specs.Objects.{exchanged, tables_in, which_of, without}
 use Rattle.pl_tables.specs.Named.{named, on_table, without_table, Named}
 use Rattle.pl_tables.specs.Rows.{no_rows, Content}
 
@@ -48,6 +48,10 @@ without_content (which.Trigger table name) ts = ts
 
 abbrev pub without_object : Which → Database → Database
 without_object w d = database (without w d.objects) (without_content w d.tables)
+
+-- the object takes the place of the one of its kind and name; what a table holds stays
+abbrev pub with_exchanged : Object → Database → Database
+with_exchanged o d = database (exchanged (which_of o) o d.objects) d.tables
 
 -- the rows of the table of this name are changed so, and all else stays
 abbrev pub on_rows : List ℕ → (Content → Content) → Database → Database

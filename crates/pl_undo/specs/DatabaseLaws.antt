@@ -8,12 +8,12 @@ use Rattle.pl_catalog.specs.declared.object.Object.TheVariants as object
 use Rattle.pl_catalog.specs.declared.object.TableDef.{TableDef}
 use Rattle.pl_catalog.specs.declared.object.Which.{Which}
 use Rattle.pl_catalog.specs.declared.object.Which.TheVariants as which
-use Rattle.pl_catalog.specs.Objects.{is_called, object_called, table_named, tables_in, which_of, without}
+use Rattle.pl_catalog.specs.Objects.{exchanged, is_called, object_called, table_named, tables_in, which_of, without}
 use Rattle.pl_catalog.specs.Refusals.{refusal_beside, refusal_of}
 use Rattle.pl_tables.specs.Named.{content_named, named, on_table, without_table, Named}
 use Rattle.pl_tables.specs.Rows.{no_rows, Content}
 use Rattle.pl_undo.specs.Contents.{rules_in, with_content_of}
-use Rattle.pl_undo.specs.Database.{keys_in, names_of, on_rows, table_names, with_content, with_object, without_object, Database, IsWhole}
+use Rattle.pl_undo.specs.Database.{keys_in, names_of, on_rows, table_names, with_content, with_exchanged, with_object, without_object, Database, IsWhole}
 
 -- one of the names is this one
 abbrev has : List ℕ → List (List ℕ) → Bool
@@ -130,6 +130,33 @@ others_less w none (object.Trigger t ∷ os) =
       | false ↦ others_less w none os
     ]
 
+-- what is no table takes the place of no table
+others_exchanged : (w : Which) (o : Object) → ((t : TableDef) → is_called w (object.Table t) ≡ false) → ((os : List Object) → table_names (o ∷ os) ≡ table_names os) → (os : List Object) → table_names (exchanged w o os) ≡ table_names os
+others_exchanged w o none nameless [] = refl
+others_exchanged w o none nameless (object.Table t ∷ os) =
+    ap (λ (b : Bool). table_names (cond b (o ∷ os) (object.Table t ∷ exchanged w o os))) (none t) ∙ ap (λ (ns : List (List ℕ)). t.name ∷ ns) (others_exchanged w o none nameless os)
+others_exchanged w o none nameless (object.Routine r ∷ os) =
+    elim (is_called w (object.Routine r)) as (λ (b : Bool). table_names (cond b (o ∷ os) (object.Routine r ∷ exchanged w o os)) ≡ table_names os) [
+      | true ↦ nameless os
+      | false ↦ others_exchanged w o none nameless os
+    ]
+others_exchanged w o none nameless (object.Trigger t ∷ os) =
+    elim (is_called w (object.Trigger t)) as (λ (b : Bool). table_names (cond b (o ∷ os) (object.Trigger t ∷ exchanged w o os)) ≡ table_names os) [
+      | true ↦ nameless os
+      | false ↦ others_exchanged w o none nameless os
+    ]
+
+-- a table takes the place of one of its name
+tables_exchanged : (t : TableDef) (os : List Object) → table_names (exchanged (which.Table t.name) (object.Table t) os) ≡ table_names os
+tables_exchanged t [] = refl
+tables_exchanged t (object.Table u ∷ os) =
+    (elim (pointwise nat_eq u.name t.name) as (λ (b : Bool). pointwise nat_eq u.name t.name ≡ b → table_names (cond b (object.Table t ∷ os) (object.Table u ∷ exchanged (which.Table t.name) (object.Table t) os)) ≡ u.name ∷ table_names os) [
+      | true ↦ λ e. ap (λ (n : List ℕ). n ∷ table_names os) (sym ((bytes_decides u.name t.name).0 e))
+      | false ↦ λ e. ap (λ (ns : List (List ℕ)). u.name ∷ ns) (tables_exchanged t os)
+    ]) refl
+tables_exchanged t (object.Routine r ∷ os) = tables_exchanged t os
+tables_exchanged t (object.Trigger r ∷ os) = tables_exchanged t os
+
 names_more : (os : List Object) (o : Object) → table_names (os ++ o ∷ []) ≡ table_names os ++ table_names (o ∷ [])
 names_more [] o = refl
 names_more (object.Table t ∷ os) o = ap (λ (ns : List (List ℕ)). t.name ∷ ns) (names_more os o)
@@ -152,6 +179,11 @@ pub whole_without : (w : Which) (d : Database) → IsWhole d → IsWhole (withou
 whole_without (which.Table name) d is = objects_less name d.objects ∙ (ap (less name) is ∙ sym (names_less name d.tables))
 whole_without (which.Routine name) d is = others_less (which.Routine name) (λ t. refl) d.objects ∙ is
 whole_without (which.Trigger table name) d is = others_less (which.Trigger table name) (λ t. refl) d.objects ∙ is
+
+pub whole_exchanged : (o : Object) (d : Database) → IsWhole d → IsWhole (with_exchanged o d)
+whole_exchanged (object.Table t) d is = tables_exchanged t d.objects ∙ is
+whole_exchanged (object.Routine r) d is = others_exchanged (which.Routine r.name) (object.Routine r) (λ t. refl) (λ os. refl) d.objects ∙ is
+whole_exchanged (object.Trigger t) d is = others_exchanged (which.Trigger t.table t.name) (object.Trigger t) (λ t. refl) (λ os. refl) d.objects ∙ is
 
 pub whole_on : (name : List ℕ) (change : Content → Content) (d : Database) → IsWhole d → IsWhole (on_rows name change d)
 whole_on name change d is = is ∙ sym (names_on name change d.tables)

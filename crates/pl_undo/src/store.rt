@@ -5,11 +5,12 @@ ghost use Rattle.std.specs.Prelude.{length, slice_get, take, true, false, Err, I
 ghost use Rattle.std.specs.Prelude.{OnOk, OnErr};
 ghost use Rattle.std.specs.Option.{ForSome};
 ghost use Rattle.pl_catalog.specs.Objects.{which_of};
-ghost use Rattle.pl_catalog.specs.Refusals.{Answers, add_refusal, drop_refusal};
+ghost use Rattle.pl_catalog.specs.Refusals.{Answers, add_refusal, drop_refusal, replace_refusal};
 ghost use Rattle.pl_tables.specs.Named.{content_named, has_room_named, is_full_named};
 ghost use Rattle.pl_tables.specs.Named.{next_named, row_named, HoldsIn};
 ghost use Rattle.pl_tables.specs.Rows.{inserted, put_at, raised, removed, replaced};
-ghost use Rattle.pl_undo.specs.Database.{database, on_rows, with_object, without_object, IsWhole};
+ghost use Rattle.pl_undo.specs.Database.{database, on_rows, with_exchanged, with_object};
+ghost use Rattle.pl_undo.specs.Database.{without_object, IsWhole};
 
 use crate::database::{create_object, drop_object, settle_objects, undo_objects, undo_tables};
 use pl_base::{Cells, Name};
@@ -110,6 +111,19 @@ impl Store {
         ensures spare { self.new.spare ≡ self.old.spare }
     {
         create_object(self.alloc, &mut self.catalog, &mut self.tables, object)
+    }
+
+    /// Puts the object in the place of the one of its kind and name; what a table holds stays.
+    /// Absent where none is there.
+    pub fn replace_object(&mut self, object: Object) -> Result<(), CatalogFail>
+        ensures answers { Answers result (replace_refusal (which_of object) self.old.now.objects) }
+        ensures ok { OnOk result (self.new.now ≡ with_exchanged object self.old.now) }
+        ensures err { OnErr result (self.new.now ≡ self.old.now) }
+        ensures last { self.new.last ≡ self.old.last }
+        ensures marks { self.new.marks ≡ self.old.marks }
+        ensures spare { self.new.spare ≡ self.old.spare }
+    {
+        self.catalog.replace(object)
     }
 
     /// Takes out this one object, a table with its rows; its triggers stay. Absent where it isn't

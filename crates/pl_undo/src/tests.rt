@@ -15,6 +15,7 @@ use std::test::Fail;
 #[derive(Clone, Copy)]
 enum Step {
     Create,
+    Exchange(u8),
     Drop,
     Insert(i32),
     Replace(u64, i32),
@@ -47,8 +48,8 @@ fn has_row(store: &Store, name: Name, id: u64) -> bool
     }
 }
 
-// A table whose number is its key.
-fn create(alloc: Global, store: &mut Store, name: Name) -> Result<(), Fail> {
+// A table whose number is its key, made by a text of this byte.
+fn table(alloc: Global, name: Name, text: u8) -> Result<Object, AllocError> {
     let mut columns = List::new(alloc);
     columns.push(0)?;
     let mut rules = List::new(alloc);
@@ -56,15 +57,25 @@ fn create(alloc: Global, store: &mut Store, name: Name) -> Result<(), Fail> {
         name,
         kind: RuleKind::Primary(columns),
     })?;
-    let table = TableDef {
+    Ok(Object::Table(TableDef {
         name,
-        text: Txt::from_slice(alloc, b"a table")?,
+        text: Txt::from_slice(alloc, [text].as_slice())?,
         columns: List::new(alloc),
         rules,
-    };
-    match store.create(Object::Table(table)) {
+    }))
+}
+
+fn create(alloc: Global, store: &mut Store, name: Name) -> Result<(), Fail> {
+    match store.create(table(alloc, name, b'a')?) {
         Ok(()) => Ok(()),
         Err(_) => Err(Fail::new("no table is added")),
+    }
+}
+
+fn exchange(alloc: Global, store: &mut Store, name: Name, text: u8) -> Result<(), Fail> {
+    match store.replace_object(table(alloc, name, text)?) {
+        Ok(()) => Ok(()),
+        Err(_) => Err(Fail::new("no table is replaced")),
     }
 }
 
@@ -128,6 +139,7 @@ fn release(store: &mut Store, at: usize) -> Result<(), Fail> {
 fn play(alloc: Global, store: &mut Store, name: Name, step: Step) -> Result<(), Fail> {
     match step {
         Step::Create => create(alloc, store, name),
+        Step::Exchange(text) => exchange(alloc, store, name, text),
         Step::Drop => drop_table(store, name),
         Step::Insert(number) => insert(store, name, row(alloc, number)?),
         Step::Replace(id, number) => replace(store, name, id, row(alloc, number)?),
@@ -183,6 +195,7 @@ fn a_roll_back_brings_back_what_was(rt: HostRuntime) -> Result<(), Fail> {
         (Step::Mark, Some([(1, 10), (2, 20)].as_slice()), 2),
         (Step::Remove(1), Some([(2, 20)].as_slice()), 2),
         (Step::Insert(20), Some([(2, 20)].as_slice()), 2),
+        (Step::Exchange(b'b'), Some([(2, 20)].as_slice()), 2),
         (Step::Replace(2, 21), Some([(2, 21)].as_slice()), 2),
         (Step::Mark, Some([(2, 21)].as_slice()), 3),
         (Step::Insert(30), Some([(2, 21), (3, 30)].as_slice()), 3),

@@ -8,18 +8,22 @@ use std::test::Fail;
 
 const STEPS: u64 = 10_000;
 
-// A table: whether it is there, its next id and its rows by id.
+// A table: whether it is there, since which turn and by which text, its next id and its rows by id.
 #[derive(Drop)]
 struct Plain {
     is_there: bool,
+    since: u64,
+    text: u8,
     next: u64,
     rows: Vec<(u64, i32)>,
 }
 
 impl Plain {
-    fn new(alloc: Global, is_there: bool) -> Plain {
+    fn new(alloc: Global, is_there: bool, since: u64) -> Plain {
         Plain {
             is_there,
+            since,
+            text: b'a',
             next: 1,
             rows: Vec::new(alloc),
         }
@@ -29,6 +33,8 @@ impl Plain {
         let rows = Vec::from_slice(alloc, self.rows.as_slice())?;
         Ok(Plain {
             is_there: self.is_there,
+            since: self.since,
+            text: self.text,
             next: self.next,
             rows,
         })
@@ -79,17 +85,18 @@ struct Copies {
 impl Copies {
     fn new(alloc: Global) -> Copies {
         Copies {
-            now: Plain::new(alloc, false),
-            last: Plain::new(alloc, false),
+            now: Plain::new(alloc, false, 0),
+            last: Plain::new(alloc, false, 0),
             marks: Vec::new(alloc),
         }
     }
 
-    // A change of the table.
-    fn change(&mut self, alloc: Global, step: Step) -> Result<(), AllocError> {
+    // A change of the table in this turn.
+    fn change(&mut self, alloc: Global, step: Step, turn: u64) -> Result<(), AllocError> {
         match step {
-            Step::Create => self.now = Plain::new(alloc, true),
-            Step::Drop => self.now = Plain::new(alloc, false),
+            Step::Create => self.now = Plain::new(alloc, true, turn),
+            Step::Exchange(text) => self.now.text = text,
+            Step::Drop => self.now = Plain::new(alloc, false, turn),
             Step::Insert(number) => self.now.insert(number)?,
             Step::Replace(id, number) => self.now.replace(id, number),
             Step::Remove(id) => self.now.rows.retain(|row| row.0 != id),
@@ -139,6 +146,7 @@ fn change_of(table: &Plain, random: u64) -> Step {
         (0, _) => Step::Drop,
         (1..=4, Some(id)) => Step::Replace(id, number),
         (5..=8, Some(id)) => Step::Remove(id),
+        (9..=10, _) => Step::Exchange(u8::try_from(random % 100).unwrap_or(0)),
         _ => Step::Insert(number),
     }
 }
@@ -160,9 +168,35 @@ fn step_of(depth: usize, random: u64) -> Step {
 
 fn is_same(alloc: Global, store: &Store, name: Name, table: &Plain) -> Result<bool, Fail> {
     match rows_of(alloc, store, name)? {
-        Some(rows) => Ok(table.is_there && rows.as_slice() == table.rows.as_slice()),
+        Some(rows) => Ok(
+            table.is_there
+                && is_made_by(store, name, table.text)
+                && rows.as_slice() == table.rows.as_slice(),
+        ),
         None => Ok(!table.is_there),
     }
+}
+
+fn is_made_by(store: &Store, name: Name, text: u8) -> bool {
+    match store.catalog().table(name) {
+        Some(table) => table.text.as_bytes() == [text].as_slice(),
+        None => false,
+    }
+}
+
+// Whether the object of this name is the first one.
+fn comes_first(store: &Store, name: Name) -> bool {
+    let mut objects = store.catalog().objects();
+    match objects.lend() {
+        Some(object) => object.name() == name,
+        None => false,
+    }
+}
+
+// Whether the two tables, if they are there, stand in the order in which they were created.
+fn is_in_order(store: &Store, name: Name, table: &Plain, other: &Plain) -> bool {
+    let are_there = table.is_there && other.is_there;
+    !are_there || comes_first(store, name) == (table.since < other.since)
 }
 
 // One step, of the store and of the copies.
@@ -172,6 +206,7 @@ fn go_on(
     name: Name,
     table: &mut Copies,
     other: &mut Copies,
+    turn: u64,
     random: u64,
 ) -> Result<(), Fail> {
     if random / 8 % 4 == 0 {
@@ -182,7 +217,7 @@ fn go_on(
     } else {
         let step = change_of(&table.now, random / 64);
         play(alloc, store, name, step)?;
-        table.change(alloc, step)?;
+        table.change(alloc, step, turn)?;
     }
     Ok(())
 }
@@ -201,12 +236,32 @@ fn a_store_is_as_plain_copies_are(rt: HostRuntime) -> Result<(), Fail> {
         random = next_random(random);
         let high = random / 65_536;
         if high % 2 == 0 {
-            go_on(alloc, &mut store, a, &mut first, &mut second, high / 2)?;
+            go_on(
+                alloc,
+                &mut store,
+                a,
+                &mut first,
+                &mut second,
+                turn,
+                high / 2,
+            )?;
         } else {
-            go_on(alloc, &mut store, b, &mut second, &mut first, high / 2)?;
+            go_on(
+                alloc,
+                &mut store,
+                b,
+                &mut second,
+                &mut first,
+                turn,
+                high / 2,
+            )?;
         }
         assert!(rt; is_same(alloc, &store, a, &first.now)?, "a after {turn}");
         assert!(rt; is_same(alloc, &store, b, &second.now)?, "b after {turn}");
+        assert!(rt;
+            is_in_order(&store, a, &first.now, &second.now),
+            "order after {turn}"
+        );
         assert_eq!(rt; store.depth(), first.marks.len());
     }
     Ok(())
