@@ -1,3 +1,4 @@
-mod Stable
 mod Total
+mod Stable
+mod Numbered
 mod Kept

@@ -3,6 +3,7 @@
 
 mod cutting;
 mod distinction;
+mod numbers;
 mod sorting;
 
 pub use cutting::{count_of, cut};

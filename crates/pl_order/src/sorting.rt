@@ -1,9 +1,12 @@
 //! ORDER BY: PostgreSQL manual, "Sorting Rows (ORDER BY)".
 
-ghost use Rattle.std.specs.Prelude.{◌≡◌, OnErr, OnOk};
+ghost use Rattle.std.specs.List.{list_all};
+ghost use Rattle.std.specs.Prelude.{◌≡◌, ◌∷◌, [], true, IfSome, OnErr, OnOk};
 ghost use Rattle.pl_keys.specs.Order.{value_at};
+ghost use Rattle.pl_order.specs.Numbers.{has_number};
 ghost use Rattle.pl_order.specs.Order.{key_order, null_place, order_by, sorted};
 
+use crate::numbers::{have_numbers, sort_by_number};
 use pl_base::{Cells, Value};
 use pl_keys::{turned, value_or};
 use pl_resolved::RKey;
@@ -13,6 +16,30 @@ use std::cmp::Ordering;
 /// Puts the rows in order, the first key counting most. Rows that tie stay as they came. An item
 /// that a row doesn't have counts as null.
 pub fn sort(rows: &mut Vec<Cells>, keys: &[RKey]) -> Result<(), AllocError>
+    ensures ok { OnOk result (rows.new.items ≡ sorted (order_by keys.now) rows.old.items) }
+    ensures err { OnErr result (rows.new.items ≡ rows.old.items) }
+{
+    match number_key(rows.as_slice(), keys) {
+        Some(key) => sort_by_number(rows, key),
+        None => sort_by_keys(rows, keys),
+    }
+}
+
+// The only key, where its item is a number in each row.
+fn number_key<'k>(rows: &[Cells], keys: &'k [RKey]) -> Option<&'k RKey>
+    ensures only { IfSome result (λ key. keys.now ≡ key.now ∷ []) }
+    ensures numbers { IfSome result (λ key.
+        list_all (has_number key.now.item) rows.now ≡ true) }
+{
+    let (key, more) = keys.split_first()?;
+    if more.is_empty() && have_numbers(rows, key.item) {
+        Some(key)
+    } else {
+        None
+    }
+}
+
+fn sort_by_keys(rows: &mut Vec<Cells>, keys: &[RKey]) -> Result<(), AllocError>
     ensures ok { OnOk result (rows.new.items ≡ sorted (order_by keys.now) rows.old.items) }
     ensures err { OnErr result (rows.new.items ≡ rows.old.items) }
 {

@@ -58,6 +58,34 @@ fn rows_are_sorted(rt: HostRuntime) -> Result<(), Fail> {
     Ok(())
 }
 
+// SELECT * FROM (VALUES (2, 'a'), (3, 'b'), (1, 'c'), (2, 'd')) v
+fn numbered(alloc: Global) -> Result<Vec<Cells>, AllocError> {
+    let mut rows = Vec::new(alloc);
+    rows.push(row(alloc, Value::Int(2), b"a")?)?;
+    rows.push(row(alloc, Value::Big(3), b"b")?)?;
+    rows.push(row(alloc, Value::Int(1), b"c")?)?;
+    rows.push(row(alloc, Value::Int(2), b"d")?)?;
+    Ok(rows)
+}
+
+#[test]
+fn rows_of_numbers_are_sorted(rt: HostRuntime) -> Result<(), Fail> {
+    let alloc = rt.alloc();
+    let mut rows = numbered(alloc)?;
+    sort(&mut rows, &key(false, false))?;
+    assert_eq!(rt;
+        texts(alloc, rows.as_slice())?.as_slice(),
+        b"cadb".as_slice()
+    );
+    let mut rows = numbered(alloc)?;
+    sort(&mut rows, &key(true, true))?;
+    assert_eq!(rt;
+        texts(alloc, rows.as_slice())?.as_slice(),
+        b"badc".as_slice()
+    );
+    Ok(())
+}
+
 #[test]
 fn rows_stand_once_and_are_cut(rt: HostRuntime) -> Result<(), Fail> {
     let alloc = rt.alloc();

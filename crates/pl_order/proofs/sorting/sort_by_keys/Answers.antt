@@ -4,7 +4,7 @@ use Rattle.std.proofs.lemmas.Fn.{always_returns_same}
 use Rattle.pl_order.specs.Order.{order_by}
 use Rattle.pl_order.proofs.Total.{is_before, rows_ranked}
 use Rattle.pl_order.proofs.Stable.{stable_sort}
-use Rattle.pl_order.proofs.sorting.sort.Goals as goal
+use Rattle.pl_order.proofs.sorting.sort_by_keys.Goals as goal
 
 pub returns-clause-ok : goal.returns-clause-ok
 returns-clause-ok c =
