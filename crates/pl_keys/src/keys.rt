@@ -1,7 +1,7 @@
 //! Rows of which each is found by its values.
 
 ghost use Rattle.std.specs.Prelude.{◌≡◌, ◌==◌, ◌↔◌, ℕ, [], ◌∷◌, ◌++◌, length, map, nat_eq, IsTrue};
-ghost use Rattle.std.specs.Prelude.{IfOk, OnOk, OnErr, Some};
+ghost use Rattle.std.specs.Prelude.{IfOk, None, OnOk, OnErr, Some};
 ghost use Rattle.std.specs.HashMap.{get};
 ghost use Rattle.pl_keys.specs.Marks.{mark_of, noted};
 ghost use Rattle.pl_keys.specs.Same.{place_of, plain, same, with_row};
@@ -87,7 +87,43 @@ impl Keys {
         ensures ok { OnOk result (self.new ≡ with_row (place_of (same row) self.old) self.old row) }
         ensures err { OnErr result (self.new ≡ self.old) }
     {
-        match self.find(row.as_slice()) {
+        let mark = mark_of(row.as_slice());
+        match known(&self.places, mark) {
+            None => {
+                self.add_marked(row, mark)?;
+                Ok(None)
+            }
+            Some(place) => self.find_or_add_near(row, mark, place),
+        }
+    }
+
+    // Puts the row behind the others, of which none has its mark.
+    fn add_marked(&mut self, row: Cells, mark: u64) -> Result<(), AllocError>
+        requires marked { mark ≡ mark_of row }
+        requires first { place_of (λ other. mark_of other == mark) self.old ≡ None }
+        ensures ok { OnOk result (self.new ≡ self.old ++ row ∷ []) }
+        ensures err { OnErr result (self.new ≡ self.old) }
+    {
+        self.rows.reserve(1)?;
+        note_first(&mut self.places, mark, self.rows.len())?;
+        self.rows.push(row).unwrap();
+        Ok(())
+    }
+
+    // The same as `find_or_add`, where the first row of the mark is known.
+    fn find_or_add_near(
+        &mut self,
+        row: Cells,
+        mark: u64,
+        place: usize,
+    ) -> Result<Option<usize>, AllocError>
+        requires marked { mark ≡ mark_of row }
+        requires first { place_of (λ other. mark_of other == mark) self.old ≡ Some place }
+        ensures place { IfOk result (λ place. place ≡ place_of (same row) self.old) }
+        ensures ok { OnOk result (self.new ≡ with_row (place_of (same row) self.old) self.old row) }
+        ensures err { OnErr result (self.new ≡ self.old) }
+    {
+        match place_near(self.rows.as_slice(), row.as_slice(), mark, place) {
             Some(place) => Ok(Some(place)),
             None => {
                 self.add(row)?;
@@ -108,6 +144,21 @@ impl Keys {
     }
 }
 
+// Keeps the place of a mark that has none.
+fn note_first(
+    places: &mut HashMap<u64, usize>,
+    mark: u64,
+    place: usize,
+) -> Result<(), AllocError>
+    requires { get nat_eq places.old mark ≡ None }
+    ensures ok { OnOk result ((q : ℕ)
+        → get nat_eq places.new q ≡ noted mark place q (get nat_eq places.old q)) }
+    ensures err { OnErr result ((q : ℕ) → get nat_eq places.new q ≡ get nat_eq places.old q) }
+{
+    places.insert(mark, place)?;
+    Ok(())
+}
+
 // Keeps the first place of a mark.
 fn note(places: &mut HashMap<u64, usize>, mark: u64, place: usize) -> Result<(), AllocError>
     ensures ok { OnOk result ((q : ℕ)
@@ -115,7 +166,7 @@ fn note(places: &mut HashMap<u64, usize>, mark: u64, place: usize) -> Result<(),
     ensures err { OnErr result ((q : ℕ) → get nat_eq places.new q ≡ get nat_eq places.old q) }
 {
     if places.get(&mark).is_none() {
-        places.insert(mark, place)?;
+        note_first(places, mark, place)?;
     }
     Ok(())
 }
