@@ -145,11 +145,7 @@ impl Keys {
 }
 
 // Keeps the place of a mark that has none.
-fn note_first(
-    places: &mut HashMap<u64, usize>,
-    mark: u64,
-    place: usize,
-) -> Result<(), AllocError>
+fn note_first(places: &mut HashMap<u64, usize>, mark: u64, place: usize) -> Result<(), AllocError>
     requires { get nat_eq places.old mark ≡ None }
     ensures ok { OnOk result ((q : ℕ)
         → get nat_eq places.new q ≡ noted mark place q (get nat_eq places.old q)) }

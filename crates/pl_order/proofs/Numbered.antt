@@ -1,5 +1,5 @@
 -- Rows whose item is a number stand in the order of the numbers.
-use Rattle.std.proofs.Common.{◌≡◌, refl, sym, ap, ◌∙◌, ℕ, ℤ, pos, Bool, true, false, ◌&&◌, cond, List, [], ◌∷◌, if◌then◌else◌, is_some, unwrap_or}
+use Rattle.std.proofs.Common.{◌≡◌, refl, sym, ap, ◌∙◌, ℕ, ℤ, pos, Bool, true, false, ◌&&◌, List, [], ◌∷◌, if◌then◌else◌, is_some, unwrap_or}
 use Rattle.std.specs.Cmp.{IsStrictWeakOrder, IsTotalOrder, back_total, int_cmp_total, on_total}
 use Rattle.std.specs.List.{list_all}
 use Rattle.std.specs.Ordering.{is_lt, int_cmp, ordering_then}
@@ -8,7 +8,7 @@ use Rattle.std.specs.declared.cmp.Ordering.TheVariants.{Less, Equal, Greater}
 use Rattle.std.proofs.lemmas.List.Sorted.{ranks_by}
 use Rattle.pl_base.specs.declared.value.Value.{Value, Row'}
 use Rattle.pl_base.specs.declared.value.Value.TheVariants.{Null, Int, Big, Text, Bool as Truth}
-use Rattle.pl_keys.specs.Order.{turned, value_at}
+use Rattle.pl_keys.specs.Order.{value_at}
 use Rattle.pl_order.specs.Numbers.{falling, has_number, number, number_at, rising}
 use Rattle.pl_order.specs.Order.{key_order, order_by, placed, sorted}
 use Rattle.pl_resolved.specs.declared.query.RKey.{RKey}

@@ -1,4 +1,4 @@
-use Rattle.std.proofs.Common.{rules, ◌≡◌, ◌∙◌, w64}
+use Rattle.std.proofs.Common.{rules, ◌∙◌, w64}
 use Rattle.std.proofs.lemmas.Int.{to_z-of_z}
 use Rattle.pl_order.proofs.numbers.fn.sort_rising.sort_by_cached_key+FnOnce.call_once.Goals as goal
 
