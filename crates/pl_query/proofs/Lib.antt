@@ -1,4 +1,3 @@
-mod Alone
 mod Front
 mod Drawn
 mod Zipped
@@ -11,3 +10,4 @@ mod Chosen
 mod Kept
 mod KeptTables
 mod Whole
+mod Standing

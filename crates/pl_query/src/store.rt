@@ -84,5 +84,5 @@ fn read_table<'t, T: Tables>(
 ) -> Result<Draw<'t>, AllocError>
     ensures { IfOk result (λ d. d ≡ alone (T.table tables.now name)) }
 {
-    Ok(Draw::of_table(tables.read(alloc, name)?))
+    Ok(Draw::of_table(alloc, tables.read(alloc, name)?))
 }
