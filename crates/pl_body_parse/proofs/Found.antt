@@ -1,5 +1,5 @@
 -- Pieces at the front of tokens.
-use Rattle.std.proofs.Common.{◌≡◌, ◌∙◌, ap, sym, refl, subst, ℕ, zero, suc, ◌-◌, ◌<◌, Bool, true, false, List, [], ◌∷◌, ◌++◌, length, take, drop, Option, Some, None, length-append, arith}
+use Rattle.std.proofs.Common.{◌≡◌, ◌∙◌, ap, sym, refl, subst, ℕ, zero, suc, ◌-◌, ◌<◌, ◌≤◌, Bool, true, false, List, [], ◌∷◌, ◌++◌, length, take, drop, Option, Some, None, length-append, arith}
 use Rattle.std.proofs.lemmas.List.{map-append}
 use Rattle.pl_lex.specs.declared.token.Token.{Token}
 use Rattle.pl_tree.specs.declared.tree.Expr.{Expr}
@@ -157,17 +157,17 @@ pub record FoundPiece (x : Piece) (ts : List Token) (more : ℕ) : Type 0 where
   pub some : 0 < more
 
 pub found_piece : (in_case : Bool) (ts : List Token) (x : Piece) (more : ℕ) → piece_at in_case ts ≡ Some (x, more) → FoundPiece x ts more
-unfolding piece_at
+unfolding piece_at reads_piece
 found_piece true ts x more h = let f = found CasePiece refl ts x more h in record { front = f.front; rest = f.rest; is = f.is; spells = known x f.front f.spells; count = f.count; some = f.some }
 found_piece false ts x more h = let f = found BlockPiece refl ts x more h in record { front = f.front; rest = f.rest; is = f.is; spells = in_block f.spells; count = f.count; some = f.some }
 
 pub finds_in_block : (in_case : Bool) (x : Piece) (front rest : List Token) → Is BlockPiece x front → (in_case ≡ true → not_handler x ≡ true) → piece_at in_case (front ++ rest) ≡ Some (x, length front)
-unfolding piece_at
+unfolding piece_at reads_piece
 finds_in_block true x front rest h n = finds CasePiece refl x front rest (h.0, to_case h.0 x (kinds front) h.1 (n refl))
 finds_in_block false x front rest h n = finds BlockPiece refl x front rest h
 
 pub finds_arm : (x : Piece) (front rest : List Token) → Is CasePiece x front → piece_at true (front ++ rest) ≡ Some (x, length front)
-unfolding piece_at
+unfolding piece_at reads_piece
 finds_arm x front rest h = finds CasePiece refl x front rest h
 
 pub finds_declared : (x : Piece) (front rest : List Token) → Is DeclarationPiece x front → declared_at (front ++ rest) ≡ Some (x, length front)
@@ -191,6 +191,7 @@ within p own ts x rest h =
     record { fewer = omega (arith, some); all = kinds_length ts }
 
 pub piece_within : (in_case : Bool) (ts : List Token) (x : Piece) (rest : Tokens) → reads_piece in_case (kinds ts) ≡ Some (x, rest) → Within ts rest
+unfolding reads_piece
 piece_within true ts x rest h = within CasePiece refl ts x rest h
 piece_within false ts x rest h = within BlockPiece refl ts x rest h
 
@@ -212,3 +213,36 @@ declared_counts ts x rest more h count = ap (counted (length ts)) h ∙ ap (λ (
 pub declared_lacks : (ts : List Token) → reads_part DeclarationPiece (kinds ts) ≡ None → declared_at ts ≡ None
 unfolding declared_at
 declared_lacks ts h = ap (counted (length ts)) h
+
+-- ---- what a reader leaves, as it counts tokens
+
+pub record Counted (ts : List Token) (new : Tokens) (all left : ℕ) : Type 0 where
+  pub is : all - left ≡ length ts - length new
+  pub some : 0 < all - left
+  pub low : left ≤ all
+
+pub counts : (ts : List Token) (rest new : Tokens) (all left : ℕ) → rest ≡ kinds ts → all ≡ length rest → left ≡ length new → length new < length ts → Counted ts new all left
+counts ts rest new all left is whole more fewer =
+    let size : length rest ≡ length ts = ap length is ∙ kinds_length ts in
+    record { is = omega (arith, size, whole, more); some = omega (arith, size, whole, more, fewer); low = omega (arith, size, whole, more, fewer) }
+
+-- what is read where these tokens come next
+pub piece_read : (in_case : Bool) (ts : List Token) (rest new : Tokens) (x y : Piece) (all left : ℕ) → rest ≡ kinds ts → all ≡ length rest → reads_piece in_case rest ≡ Some (x, new) → left ≡ length new → y ≡ x
+    → (piece_at in_case ts ≡ Some (y, all - left)) × (0 < all - left) × (left ≤ all)
+piece_read in_case ts rest new x y all left is whole read more same =
+    let h : reads_piece in_case (kinds ts) ≡ Some (x, new) = ap (reads_piece in_case) (sym is) ∙ read in
+    let k = counts ts rest new all left is whole more (piece_within in_case ts x new h).fewer in
+    (piece_counts in_case ts x new (all - left) h k.is ∙ ap (λ (x : Piece). let o : Taken Piece = Some (x, all - left) in o) (sym same), k.some, k.low)
+
+pub piece_unread : (in_case : Bool) (ts : List Token) (rest : Tokens) → rest ≡ kinds ts → reads_piece in_case rest ≡ None → piece_at in_case ts ≡ None
+piece_unread in_case ts rest is none = piece_lacks in_case ts (ap (reads_piece in_case) (sym is) ∙ none)
+
+pub declared_read : (ts : List Token) (rest new : Tokens) (x y : Piece) (all left : ℕ) → rest ≡ kinds ts → all ≡ length rest → reads_part DeclarationPiece rest ≡ Some (x, new) → left ≡ length new → y ≡ x
+    → (declared_at ts ≡ Some (y, all - left)) × (0 < all - left) × (left ≤ all)
+declared_read ts rest new x y all left is whole read more same =
+    let h : reads_part DeclarationPiece (kinds ts) ≡ Some (x, new) = ap (reads_part DeclarationPiece) (sym is) ∙ read in
+    let k = counts ts rest new all left is whole more (declared_within ts x new h).fewer in
+    (declared_counts ts x new (all - left) h k.is ∙ ap (λ (x : Piece). let o : Taken Piece = Some (x, all - left) in o) (sym same), k.some, k.low)
+
+pub declared_unread : (ts : List Token) (rest : Tokens) → rest ≡ kinds ts → reads_part DeclarationPiece rest ≡ None → declared_at ts ≡ None
+declared_unread ts rest is none = declared_lacks ts (ap (reads_part DeclarationPiece) (sym is) ∙ none)

@@ -20,7 +20,7 @@ use Rattle.pl_body_pieces.specs.Ahead.{sees_pair}
 use Rattle.pl_body_pieces.specs.Grammar.{BlockPiece, CasePiece}
 use Rattle.pl_body_pieces.specs.FirstFollow.{reads_part}
 use Rattle.pl_body_pieces.specs.declared.parts.Piece.{Piece}
-use Rattle.pl_body_parse.specs.Computed.{Taken, counted, piece_at, itemed, or_item, item_at, made_with, taken, read_from, body_of_tokens}
+use Rattle.pl_body_parse.specs.Computed.{Taken, counted, reads_piece, piece_at, itemed, or_item, item_at, made_with, taken, read_from, body_of_tokens}
 use Rattle.pl_body_parse.specs.Spells.{Name, Stands, bare_end, next, Row, no_item, one_more, bare, SpellsBody, NoneSpells}
 use Rattle.pl_body_parse.proofs.Found.{pair_is, drop_front, found_piece}
 use Rattle.pl_body_parse.proofs.Standing.{fits, stands_some, item_read, found_itemed}
@@ -42,7 +42,7 @@ no_case_piece (kind.Keyword w.End ∷ kind.Quoted name ∷ []) label h = refl
 no_case_piece _ label h = absurd (cc)
 
 no_piece : (in_case : Bool) (ts : List Token) (label : Option Name) → bare_end (kinds ts) ≡ Some label → piece_at in_case ts ≡ None
-unfolding piece_at
+unfolding piece_at reads_piece
 no_piece true ts label h = ap (counted (length ts)) (no_case_piece (kinds ts) label h)
 no_piece false ts label h = ap (counted (length ts)) (no_block_piece (kinds ts) label h)
 

@@ -4,7 +4,6 @@ use Rattle.pl_lex.specs.Characters.{Text}
 use Rattle.pl_lex.specs.Slices.{slice_of}
 use Rattle.pl_lex.specs.declared.token.Token.{Token}
 use Rattle.pl_tree.specs.declared.command.Command.TheVariants.{Define}
-use Rattle.pl_tree.specs.declared.command.Definition.{Definition}
 use Rattle.pl_bodies.specs.declared.declaration.Declaration.{Declaration}
 use Rattle.pl_bodies.specs.declared.simple.Simple.TheVariants.{Command}
 use Rattle.pl_bodies.specs.declared.statement.LoopHead.{LoopHead}

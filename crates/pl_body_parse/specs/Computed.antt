@@ -36,7 +36,7 @@ counted before (Some (x, rest)) = Some (x, before - length rest)
 -- ---- pieces
 
 -- where an arm of CASE may come, and where a handler may
-abbrev pub reads_piece : Bool → Parser Piece
+unfoldable pub reads_piece : Bool → Parser Piece
 reads_piece true = reads_part CasePiece
 reads_piece false = reads_part BlockPiece
 
