@@ -1,0 +1,9 @@
+-- The failures of the code as those of the definitions. It says how the code stands to these.
+use Rattle.std.specs.Prelude.{Option, Some, None}
+use Rattle.pl_base.specs.declared.state.State.{State}
+use Rattle.pl_typing.specs.declared.fail.ScopeFail.{ScopeFail}
+use Rattle.pl_typing.specs.declared.fail.ScopeFail.TheVariants.{State as Fails, Memory}
+
+abbrev pub fail_by : Option State → ScopeFail
+fail_by (Some state) = Fails state
+fail_by None = Memory
