@@ -1,13 +1,14 @@
--- Objects that are added and dropped.
+-- Objects that are added, replaced and dropped.
 use Rattle.std.proofs.Common.{◌≡◌, ℕ, List, [], ◌∷◌, ◌++◌, cond, Bool, true, false, Option, Some, None, refl, sym, ◌∙◌, ap, subst, append_assoc}
 use Rattle.std.specs.Prelude.{option_map}
 use Rattle.std.proofs.lemmas.List.{append-nil}
 use Rattle.pl_catalog.specs.declared.object.Object.{Object}
 use Rattle.pl_catalog.specs.declared.object.Object.TheVariants as object
+use Rattle.pl_catalog.specs.declared.object.Routine.{Routine}
 use Rattle.pl_catalog.specs.declared.object.TableDef.{TableDef}
 use Rattle.pl_catalog.specs.declared.object.Which.{Which}
 use Rattle.pl_catalog.specs.declared.object.Which.TheVariants as which
-use Rattle.pl_catalog.specs.Objects.{is_called, is_same, object_called, table_named, tables_in, which_of, without}
+use Rattle.pl_catalog.specs.Objects.{exchanged, is_called, is_same, object_called, table_named, tables_in, which_of, without}
 use Rattle.pl_catalog.specs.Refusals.{refusal_beside}
 use Rattle.pl_journal.specs.Sound.{AreMade, IsMade}
 use Rattle.pl_journal.proofs.OneTable.{same_text}
@@ -82,6 +83,37 @@ made_less w before (o ∷ os) are =
       | true ↦ fewer (before ++ o ∷ []) before os (λ v none. none_front v before (o ∷ []) none) are.2
       | false ↦ (are.0, are.1, made_less w (before ++ o ∷ []) os are.2)
     ]
+
+-- a routine in the place of the one of its name
+module _ (q r : Routine) (same : q.name ≡ r.name) where
+  called_alike : (w : Which) → is_called w (object.Routine q) ≡ is_called w (object.Routine r)
+  called_alike (which.Table name) = refl
+  called_alike (which.Routine name) = ap (λ (n : List ℕ). is_same n name) same
+  called_alike (which.Trigger table name) = refl
+
+  none_alike : (w : Which) → object_called w (object.Routine q ∷ []) ≡ None → object_called w (object.Routine r ∷ []) ≡ None
+  none_alike w none =
+      (elim (is_called w (object.Routine q)) as (λ (b : Bool). is_called w (object.Routine q) ≡ b → (let o : Option Object = cond b (Some (object.Routine q)) None in o ≡ None) → object_called w (object.Routine r ∷ []) ≡ None) [
+        | true ↦ λ e h. absurd (none_some (object.Routine q) (sym h))
+        | false ↦ λ e h. ap (λ (b : Bool). let o : Option Object = cond b (Some (object.Routine r)) None in o) (sym (called_alike w) ∙ e)
+      ]) refl none
+
+  behind_it : (before os : List Object) → AreMade (before ++ object.Routine q ∷ []) os → AreMade (before ++ object.Routine r ∷ []) os
+  behind_it before os are =
+      fewer (before ++ object.Routine q ∷ []) (before ++ object.Routine r ∷ []) os
+      (λ w none. none_both w before (object.Routine r ∷ []) (none_front w before (object.Routine q ∷ []) none) (none_alike w (none_back w before (object.Routine q ∷ []) none))) are
+
+pub made_exchanged : (r : Routine) (before os : List Object) → IsMade (object.Routine r) → AreMade before os → AreMade before (exchanged (which.Routine r.name) (object.Routine r) os)
+made_exchanged r before [] made are = tt
+made_exchanged r before (object.Routine q ∷ os) made are =
+    (elim (is_same q.name r.name) as (λ (b : Bool). is_same q.name r.name ≡ b → AreMade before (cond b (object.Routine r ∷ os) (object.Routine q ∷ exchanged (which.Routine r.name) (object.Routine r) os))) [
+      | true ↦ λ e.
+          let same : q.name ≡ r.name = same_text q.name r.name e in
+          (made, ap (λ (n : List ℕ). object_called (which.Routine n) before) (sym same) ∙ are.1, behind_it q r same before os are.2)
+      | false ↦ λ e. (are.0, are.1, made_exchanged r (before ++ object.Routine q ∷ []) os made are.2)
+    ]) refl
+made_exchanged r before (object.Table t ∷ os) made are = (are.0, are.1, made_exchanged r (before ++ object.Table t ∷ []) os made are.2)
+made_exchanged r before (object.Trigger t ∷ os) made are = (are.0, are.1, made_exchanged r (before ++ object.Trigger t ∷ []) os made are.2)
 
 -- a table among them
 pub made_table : (name : List ℕ) (before os : List Object) (t : TableDef) → AreMade before os → table_named name (tables_in os) ≡ Some t → IsMade (object.Table t) × (t.name ≡ name)
@@ -169,6 +201,23 @@ others_stay w none (object.Trigger r ∷ os) =
       | true ↦ refl
       | false ↦ others_stay w none os
     ]
+
+pub exchanged_stay : (r : Routine) (os : List Object) → tables_in (exchanged (which.Routine r.name) (object.Routine r) os) ≡ tables_in os
+exchanged_stay r [] = refl
+exchanged_stay r (object.Table t ∷ os) = ap (λ (ts : List TableDef). t ∷ ts) (exchanged_stay r os)
+exchanged_stay r (object.Routine q ∷ os) =
+    elim (is_same q.name r.name) as (λ (b : Bool). tables_in (cond b (object.Routine r ∷ os) (object.Routine q ∷ exchanged (which.Routine r.name) (object.Routine r) os)) ≡ tables_in os) [
+      | true ↦ refl
+      | false ↦ exchanged_stay r os
+    ]
+exchanged_stay r (object.Trigger t ∷ os) = exchanged_stay r os
+
+-- nor does it add one
+pub tables_alone : (o : Object) → tables_in (o ∷ []) ≡ [] → (os : List Object) → tables_in (os ++ o ∷ []) ≡ tables_in os
+tables_alone o none [] = none
+tables_alone o none (object.Table t ∷ os) = ap (λ (ts : List TableDef). t ∷ ts) (tables_alone o none os)
+tables_alone o none (object.Routine r ∷ os) = tables_alone o none os
+tables_alone o none (object.Trigger t ∷ os) = tables_alone o none os
 
 -- ---- tables with one more
 

@@ -10,8 +10,8 @@ use Rattle.pl_catalog.specs.Dependents.{first_dependent}
 use Rattle.pl_catalog.specs.Objects.{table_named, tables_in}
 use Rattle.pl_catalog.specs.declared.object.TableDef.{TableDef}
 use Rattle.pl_codec.specs.Spelling.{is_define_text, is_row_id}
-use Rattle.pl_ddl.specs.declared.definition.Defined.{Defined}
-use Rattle.pl_ddl.specs.declared.definition.Defined.TheVariants.{Add, Drop, Nothing}
+use Rattle.pl_define.specs.declared.definition.Defined.{Defined}
+use Rattle.pl_define.specs.declared.definition.Defined.TheVariants.{Add, Drop, Nothing, Replace}
 use Rattle.pl_journal.specs.Definitions.{Behind, behind, carried_out, is_stored_object, redefined, unless_needed}
 use Rattle.pl_journal.specs.Operation.{apply, behind_it, put, put_in, raise_from}
 use Rattle.pl_journal.specs.Sound.{IsSound}
@@ -31,7 +31,7 @@ use Rattle.pl_tables.specs.Named.{content_named, has_room_named, next_named, Hol
 use Rattle.pl_tables.specs.Rows.{Content, Holds, has_room, put_at, raised}
 use Rattle.pl_tree.specs.declared.command.Definition.{Definition}
 use Rattle.pl_typing.specs.Resolved.{Resolved}
-use Rattle.pl_undo.specs.Database.{Database, on_rows, with_object, without_object}
+use Rattle.pl_undo.specs.Database.{Database, on_rows, with_exchanged, with_object, without_object}
 use Rattle.pl_undo.specs.DatabaseLaws.{content_of_table}
 use Rattle.pl_undo.specs.Store.{Stored}
 use Rattle.pl_value.specs.Frames.{Row}
@@ -154,6 +154,7 @@ module _ (d next : Database) (state : State) where
         | true ↦ λ e. absurd (not_noticed (with_object o d) e)
         | false ↦ λ e. absurd (not_refused FEATURE_NOT_SUPPORTED e)
       ]) h
+  noticed (Ok (Replace o)) h = absurd (not_noticed (with_exchanged o d) h)
   noticed (Ok (Drop w)) h =
       (elim (first_dependent w d.objects) as (λ (o : Option (List ℕ)). unless_needed o (without_object w d) ≡ Ok (behind next (Some state)) → next ≡ d) [
         | None ↦ λ e. absurd (not_noticed (without_object w d) e)

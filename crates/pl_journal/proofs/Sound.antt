@@ -9,20 +9,21 @@ use Rattle.pl_base.specs.declared.state.State.{State}
 use Rattle.pl_catalog.specs.Dependents.{first_dependent}
 use Rattle.pl_catalog.specs.declared.object.Object.{Object}
 use Rattle.pl_catalog.specs.declared.object.Object.TheVariants as object
+use Rattle.pl_catalog.specs.declared.object.Routine.{Routine}
 use Rattle.pl_catalog.specs.declared.object.TableDef.{TableDef}
 use Rattle.pl_catalog.specs.declared.object.Which.{Which}
 use Rattle.pl_catalog.specs.declared.object.Which.TheVariants as which
 use Rattle.pl_catalog.specs.Objects.{is_same, object_called, table_named, tables_in, which_of, without}
 use Rattle.pl_codec.specs.Spelling.{is_row_id}
-use Rattle.pl_ddl.specs.Definition.{defined}
-use Rattle.pl_ddl.specs.DefinitionLaws.{new, table}
-use Rattle.pl_ddl.specs.declared.definition.Defined.{Defined}
-use Rattle.pl_ddl.specs.declared.definition.Defined.TheVariants.{Add, Drop, Nothing}
+use Rattle.pl_define.specs.Definition.{defined, text_of}
+use Rattle.pl_define.specs.declared.definition.Defined.{Defined}
+use Rattle.pl_define.specs.declared.definition.Defined.TheVariants.{Add, Drop, Nothing, Replace}
+use Rattle.pl_define.proofs.Done as laws
 use Rattle.pl_journal.specs.Definitions.{Behind, behind, carried_out, is_stored_object, redefined, unless_needed}
 use Rattle.pl_journal.specs.Operation.{apply, apply_all, behind_it, empty, may_stand, put, put_in, raise, raise_from}
 use Rattle.pl_journal.specs.Sound.{IsMade, IsSound, IsSoundTable}
 use Rattle.pl_journal.specs.Writing.{is_taken_beside}
-use Rattle.pl_journal.proofs.Objects.{content_before, content_last, content_stays, gone, made_less, made_more, no_content, others_stay, table_before, table_last, table_stays, tables_more}
+use Rattle.pl_journal.proofs.Objects.{content_before, content_last, content_stays, exchanged_stay, gone, made_exchanged, made_less, made_more, no_content, others_stay, table_before, table_last, table_stays, tables_alone, tables_more}
 use Rattle.pl_journal.proofs.OneContent.{new_sound, none_other, put_sound, raised_sound, removed_sound}
 use Rattle.pl_journal.proofs.OneTable as one
 use Rattle.pl_journal.proofs.OneTable.{content_changed, same_text}
@@ -33,8 +34,8 @@ use Rattle.pl_tables.specs.Named.{Named, content_named, named, next_named, on_ta
 use Rattle.pl_tables.specs.Rows.{Content, has_room, no_rows, put_at, raised, removed}
 use Rattle.pl_tree.specs.declared.command.Definition.{Definition}
 use Rattle.pl_typing.specs.Resolved.{Resolved}
-use Rattle.pl_undo.specs.Database.{Database, keys_in, on_rows, with_object, without_object}
-use Rattle.pl_undo.specs.DatabaseLaws.{content_of_table, whole_on, whole_with, whole_without}
+use Rattle.pl_undo.specs.Database.{Database, keys_in, on_rows, with_exchanged, with_object, without_object}
+use Rattle.pl_undo.specs.DatabaseLaws.{content_of_table, whole_exchanged, whole_on, whole_with, whole_without}
 use Rattle.pl_value.specs.Frames.{Row}
 
 -- ---- rows
@@ -123,6 +124,29 @@ module _ (t : TableDef) (d : Database) (sound : IsSound d) (made : IsMade (objec
   pub added_sound : IsSound (with_object (object.Table t) d)
   added_sound = record { whole = whole_with (object.Table t) d sound.whole; objects = made_more [] d.objects (object.Table t) sound.objects made free; tables = each_more }
 
+-- another object more
+module _ (o : Object) (d : Database) (sound : IsSound d) (made : IsMade o) (free : object_called (which_of o) d.objects ≡ None) (alone : tables_in (o ∷ []) ≡ []) where
+  more_tables : (ts : List Named) → ts ≡ d.tables → (name : List ℕ) (t : TableDef) (c : Content) → table_named name (tables_in (d.objects ++ o ∷ [])) ≡ Some t → content_named name ts ≡ Some c → IsSoundTable t c
+  more_tables ts same name t c is holds-it =
+      sound.tables name t c (ap (λ (us : List TableDef). table_named name us) (sym (tables_alone o alone d.objects)) ∙ is) (ap (λ (us : List Named). content_named name us) (sym same) ∙ holds-it)
+
+  other_sound : (with_object o d).tables ≡ d.tables → IsSound (with_object o d)
+  other_sound same = record { whole = whole_with o d sound.whole; objects = made_more [] d.objects o sound.objects made free; tables = more_tables (with_object o d).tables same }
+
+pub more_sound : (o : Object) (d : Database) → IsSound d → IsMade o → object_called (which_of o) d.objects ≡ None → IsSound (with_object o d)
+more_sound (object.Table t) d sound made free = added_sound t d sound made free
+more_sound (object.Routine r) d sound made free = other_sound (object.Routine r) d sound made free refl refl
+more_sound (object.Trigger t) d sound made free = other_sound (object.Trigger t) d sound made free refl refl
+
+-- a routine in the place of another
+pub replaced_sound : (r : Routine) (d : Database) → IsSound d → IsMade (object.Routine r) → IsSound (with_exchanged (object.Routine r) d)
+replaced_sound r d sound made =
+    record {
+      whole = whole_exchanged (object.Routine r) d sound.whole;
+      objects = made_exchanged r [] d.objects made sound.objects;
+      tables = λ name t c is holds-it. sound.tables name t c (ap (λ (ts : List TableDef). table_named name ts) (sym (exchanged_stay r d.objects)) ∙ is) holds-it;
+    }
+
 -- an object less
 dropped_tables : (w : Which) (d : Database) → IsSound d → (name : List ℕ) (t : TableDef) (c : Content)
     → table_named name (tables_in (without w d.objects)) ≡ Some t → content_named name (without_object w d).tables ≡ Some c → IsSoundTable t c
@@ -149,23 +173,27 @@ ok_is x y h = cc
 err_ok : {A : Type 0} (state : State) (x : A) → (let r : Resolved A = Err state in r ≡ Ok x) → ⊥
 err_ok state x h = cc
 
--- what is known of an object that a definition of this text adds
+-- an object of this text that the definition adds beside some others
+made_by : (definition : Definition) (text : List ℕ) (others : List Object) (o : Object) → definition_in text ≡ Some definition → text_of o ≡ text → defined others definition text ≡ Ok (Add o) → is_stored_object o ≡ true → IsMade o
+made_by definition text others o reads own_text adds is_stored =
+    record {
+      definition = definition;
+      others = others;
+      read = ap (λ (x : List ℕ). definition_in x) own_text ∙ reads;
+      made = ap (λ (x : List ℕ). defined others definition x) own_text ∙ adds;
+      stored = is_stored;
+    }
+
 added_by : (definition : Definition) (text : List ℕ) (d : Database) (o : Object) → definition_in text ≡ Some definition → defined d.objects definition text ≡ Ok (Add o) → is_stored_object o ≡ true → IsSound d → IsSound (with_object o d)
 added_by definition text d o reads adds is_stored sound =
-    let its = table d.objects definition text o adds in
-    let t : TableDef = its.0 in
-    let as_o : object.Table t ≡ o = sym its.1 in
-    let own_text : t.text ≡ text = its.2 in
-    subst (λ (x : Object). IsSound (with_object x d)) as_o
-    (added_sound t d sound
-    (record {
-      definition = definition;
-      others = d.objects;
-      read = ap (λ (x : List ℕ). definition_in x) own_text ∙ reads;
-      made = ap (λ (x : List ℕ). defined d.objects definition x) own_text ∙ (adds ∙ ap (λ (x : Object). let r : Resolved Defined = Ok (Add x) in r) (sym as_o));
-      stored = ap (λ (x : Object). is_stored_object x) as_o ∙ is_stored;
-    })
-    (ap (λ (x : Object). object_called (which_of x) d.objects) as_o ∙ new d.objects definition text o adds))
+    more_sound o d sound (made_by definition text d.objects o reads (laws.added_text d.objects definition text o adds) adds is_stored) (laws.added_new d.objects definition text o adds)
+
+replaced_by : (definition : Definition) (text : List ℕ) (d : Database) (o : Object) → definition_in text ≡ Some definition → defined d.objects definition text ≡ Ok (Replace o) → IsSound d → IsSound (with_exchanged o d)
+replaced_by definition text d o reads replaces sound =
+    let its = laws.replaced_routine d.objects definition text o replaces in
+    let adds : defined [] definition text ≡ Ok (Add o) = laws.replacing_alike d.objects [] definition text o replaces refl in
+    let made : IsMade o = made_by definition text [] o reads (laws.replacing_text d.objects definition text o replaces) adds (ap (λ (x : Object). is_stored_object x) its.1) in
+    subst (λ (x : Object). IsSound (with_exchanged x d)) (sym its.1) (replaced_sound its.0 d sound (subst (λ (x : Object). IsMade x) its.1 made))
 
 carried_sound : (definition : Definition) (text : List ℕ) (d : Database) → definition_in text ≡ Some definition → IsSound d → (r : Resolved Defined) → defined d.objects definition text ≡ r → (b : Behind) → carried_out r d ≡ Ok b → IsSound b.database
 carried_sound definition text d reads sound (Err state) is b out = absurd (err_ok state b out)
@@ -175,6 +203,7 @@ carried_sound definition text d reads sound (Ok (Add o)) is b out =
       | true ↦ λ e h. subst (λ (x : Behind). IsSound x.database) (ok_is (behind (with_object o d) None) b h) (added_by definition text d o reads is e sound)
       | false ↦ λ e h. absurd (err_ok FEATURE_NOT_SUPPORTED b h)
     ]) refl out
+carried_sound definition text d reads sound (Ok (Replace o)) is b out = subst (λ (x : Behind). IsSound x.database) (ok_is (behind (with_exchanged o d) None) b out) (replaced_by definition text d o reads is sound)
 carried_sound definition text d reads sound (Ok (Drop w)) is b out =
     (elim (first_dependent w d.objects) as (λ (o : Option (List ℕ)). unless_needed o (without_object w d) ≡ Ok b → IsSound b.database) [
       | None ↦ λ h. subst (λ (x : Behind). IsSound x.database) (ok_is (behind (without_object w d) None) b h) (dropped_sound w d sound)

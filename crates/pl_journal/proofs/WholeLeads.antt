@@ -13,12 +13,13 @@ use Rattle.pl_catalog.specs.declared.object.Object.TheVariants as object
 use Rattle.pl_catalog.specs.declared.object.TableDef.{TableDef}
 use Rattle.pl_codec.specs.ReadBack.{OpReadsBack}
 use Rattle.pl_codec.specs.Spelling.{ops_bytes}
-use Rattle.pl_ddl.specs.DefinitionLaws.{alike}
-use Rattle.pl_ddl.specs.declared.definition.Defined.{Defined}
+use Rattle.pl_define.specs.Definition.{text_of}
+use Rattle.pl_define.specs.declared.definition.Defined.{Defined}
+use Rattle.pl_define.proofs.Done.{added_alike}
 use Rattle.pl_journal.specs.Definitions.{behind, carried_out, redefined}
 use Rattle.pl_journal.specs.Journal.{LeadsTo}
 use Rattle.pl_journal.specs.Operation.{apply, apply_all, behind_it, empty}
-use Rattle.pl_journal.specs.Sound.{text_of, AreMade, IsMade, IsSound, IsSoundTable}
+use Rattle.pl_journal.specs.Sound.{AreMade, IsMade, IsSound, IsSoundTable}
 use Rattle.pl_journal.specs.Whole.{content_ops, whole, whole_of}
 use Rattle.pl_journal.specs.Written.{Writes}
 use Rattle.pl_journal.proofs.Payload.{apply_all-append}
@@ -47,7 +48,7 @@ table_last t (object.Trigger r ∷ os) more none = table_last t os more none
 made_again : (o : Object) (os : List Object) (ts : List Named) → IsMade o → object_called (which_of o) os ≡ None → apply (Define (text_of o)) (database os ts) ≡ Some (with_object o (database os ts))
 made_again o os ts made none =
     ap (λ (x : Option Definition). option_and_then (λ (definition : Definition). behind_it (redefined definition (text_of o) (database os ts))) x) made.read
-    ∙ ap (λ (r : Resolved Defined). behind_it (carried_out r (database os ts))) (alike made.others os made.definition (text_of o) o made.made none)
+    ∙ ap (λ (r : Resolved Defined). behind_it (carried_out r (database os ts))) (added_alike made.others os made.definition (text_of o) o made.made none)
     ∙ ap (λ (b : Bool). behind_it (cond b (Ok (behind (with_object o (database os ts)) None)) (Err FEATURE_NOT_SUPPORTED))) made.stored
 
 -- ---- all of them

@@ -8,7 +8,8 @@ use Rattle.pl_catalog.specs.declared.object.Object.{Object}
 use Rattle.pl_catalog.specs.declared.object.Object.TheVariants as object
 use Rattle.pl_catalog.specs.declared.object.TableDef.{TableDef}
 use Rattle.pl_codec.specs.Spelling.{are_stored, is_define_text, is_stored_value, is_table_name}
-use Rattle.pl_journal.specs.Sound.{text_of, AreMade, AreRows, IsMade, IsSound, IsSoundTable}
+use Rattle.pl_define.specs.Definition.{text_of}
+use Rattle.pl_journal.specs.Sound.{AreMade, AreRows, IsMade, IsSound, IsSoundTable}
 use Rattle.pl_journal.specs.Whole.{content_ops, held_ops, row_ops, whole, whole_of}
 use Rattle.pl_journal.proofs.Rows.{rows_end, Rows}
 use Rattle.pl_journal.proofs.Stored.{fits_stored}

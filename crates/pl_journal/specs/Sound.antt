@@ -4,10 +4,9 @@ use Rattle.std.specs.Prelude.{◌≡◌, ◌≤◌, ◌+◌, ◌^◌, ◌++◌, 
 use Rattle.std.specs.Prelude.{Some, None, Ok, true, false}
 use Rattle.pl_catalog.specs.Objects.{object_called, table_named, tables_in, which_of}
 use Rattle.pl_catalog.specs.declared.object.Object.{Object}
-use Rattle.pl_catalog.specs.declared.object.Object.TheVariants as object
 use Rattle.pl_catalog.specs.declared.object.TableDef.{TableDef}
-use Rattle.pl_ddl.specs.Definition.{defined}
-use Rattle.pl_ddl.specs.declared.definition.Defined.TheVariants.{Add}
+use Rattle.pl_define.specs.Definition.{defined, text_of}
+use Rattle.pl_define.specs.declared.definition.Defined.TheVariants.{Add}
 use Rattle.pl_journal.specs.Definitions.{is_stored_object}
 use Rattle.pl_journal.specs.Writing.{is_taken_beside}
 use Rattle.pl_reading.specs.Computed.{definition_in}
@@ -38,12 +37,6 @@ pub record IsSoundTable (table : TableDef) (c : Content) : Type 0 where
   pub apart : AreApart c
 
 -- ---- objects
-
--- the text of the command that made it
-abbrev pub text_of : Object → List ℕ
-text_of (object.Table t) = t.text
-text_of (object.Routine r) = r.text
-text_of (object.Trigger t) = t.text
 
 -- the object is what its text makes, beside some others
 pub record IsMade (o : Object) : Type 0 where

@@ -4,7 +4,7 @@ use Rattle.pl_base.specs.declared.operation.Op.{Op}
 use Rattle.pl_base.specs.declared.operation.Op.TheVariants.{Define, Put, Next}
 use Rattle.pl_catalog.specs.declared.object.Object.{Object}
 use Rattle.pl_catalog.specs.declared.object.Object.TheVariants as object
-use Rattle.pl_journal.specs.Sound.{text_of}
+use Rattle.pl_define.specs.Definition.{text_of}
 use Rattle.pl_tables.specs.Named.{Named, content_named}
 use Rattle.pl_tables.specs.Rows.{Content}
 use Rattle.pl_undo.specs.Database.{Database}

@@ -3,7 +3,7 @@
 ghost use Rattle.std.specs.Prelude.{◌≡◌, None, Some, Ok, IsSome, OnErr};
 ghost use Rattle.pl_catalog.specs.Objects.{object_called, which_of};
 ghost use Rattle.pl_catalog.specs.declared.object.Object.TheVariants as object;
-ghost use Rattle.pl_ddl.specs.declared.definition.Defined.TheVariants.{Add, Drop};
+ghost use Rattle.pl_define.specs.declared.definition.Defined.TheVariants.{Add, Drop, Replace};
 ghost use Rattle.pl_journal.specs.Definitions as spec;
 ghost use Rattle.pl_journal.specs.Definitions.{carried_out, redefined};
 ghost use Rattle.pl_journal.specs.Journal.{IsKept, Redefines};
@@ -13,7 +13,7 @@ use crate::spelling::spell_define;
 use pl_base::{State, Txt};
 use pl_catalog::{CatalogFail, Object, TableDef, Which};
 use pl_codec::is_table_name;
-use pl_ddl::{Defined, define};
+use pl_define::{Defined, define};
 use pl_tree::Definition;
 use pl_typing::ScopeFail;
 use pl_undo::Store;
@@ -58,6 +58,24 @@ fn add_object(store: &mut Store, object: Object) -> Result<Option<State>, ScopeF
     }
 }
 
+// Puts the object in the place of the one of its kind and name, which is there.
+fn replace_object(store: &mut Store, object: Object) -> Result<Option<State>, ScopeFail>
+    requires there { IsSome (object_called (which_of object) store.old.now.objects) }
+    ensures redefines { Redefines (carried_out (Ok (Replace object)) store.old.now) result
+        store.new.now }
+    ensures err { OnErr result (store.new.now ≡ store.old.now) }
+    ensures last { store.new.last ≡ store.old.last }
+    ensures marks { store.new.marks ≡ store.old.marks }
+{
+    match store.replace_object(object) {
+        Ok(()) => Ok(None),
+        Err(CatalogFail::Taken | CatalogFail::Absent | CatalogFail::Dependent { .. }) => {
+            unreachable!()
+        }
+        Err(CatalogFail::Memory) => Err(ScopeFail::Memory),
+    }
+}
+
 // Takes out this object, which is there, unless others need it.
 fn drop_object(store: &mut Store, which: Which) -> Result<Option<State>, ScopeFail>
     requires there { IsSome (object_called which store.old.now.objects) }
@@ -94,6 +112,7 @@ pub(crate) fn carry_out(
         Err(fail) => Err(fail),
         Ok(Defined::Nothing(notice)) => Ok(Some(notice)),
         Ok(Defined::Add(object)) => add_object(store, object),
+        Ok(Defined::Replace(object)) => replace_object(store, object),
         Ok(Defined::Drop(which)) => drop_object(store, which),
     }
 }

@@ -196,6 +196,55 @@ fn operations_lead_to_what_the_writes_left(rt: HostRuntime) -> Result<(), Fail> 
     Ok(())
 }
 
+const FUNCTION: &str = "CREATE FUNCTION f() RETURNS integer LANGUAGE plpgsql AS 'BEGIN END'";
+
+const GONE: &str = "CREATE FUNCTION g() RETURNS integer LANGUAGE plpgsql AS 'BEGIN END'";
+
+const ANOTHER: &str =
+    "CREATE OR REPLACE FUNCTION f() RETURNS integer LANGUAGE plpgsql AS 'BEGIN RETURN 1; END'";
+
+// Whether these are carried out, one after the other.
+fn define_all(alloc: Global, journal: &mut Journal, texts: &[&str]) -> Result<bool, Fail> {
+    for text in texts {
+        let text = Txt::from_slice(alloc, text.as_bytes())?;
+        if !matches!(define(alloc, journal, text), Ok(true)) {
+            return Ok(false);
+        }
+    }
+    Ok(true)
+}
+
+// Whether the function of this name is the one that this text makes.
+fn is_made_by(journal: &Journal, name: Name, text: &str) -> bool {
+    match journal.catalog().routine(name) {
+        Some(routine) => routine.text.as_bytes() == text.as_bytes(),
+        None => false,
+    }
+}
+
+// The operations, and the whole that they lead to.
+#[test]
+fn a_function_takes_the_place_of_another(rt: HostRuntime) -> Result<(), Fail> {
+    let alloc = rt.alloc();
+    let (Some(f), Some(g)) = (Name::of("f"), Name::of("g")) else {
+        return Err(Fail::new("no name"));
+    };
+    let mut journal = Journal::new(alloc);
+    let texts = [FUNCTION, GONE, TABLE, ANOTHER, "DROP FUNCTION g"];
+    assert!(rt; define_all(alloc, &mut journal, &texts)?);
+    assert!(rt; is_made_by(&journal, f, ANOTHER));
+    let again = opened(alloc, journal.payload())?;
+    assert!(rt; is_made_by(&again, f, ANOTHER));
+    assert!(rt; again.catalog().routine(g).is_none());
+    let Ok(payload) = again.whole() else {
+        return Err(Fail::new("no memory"));
+    };
+    let whole = opened(alloc, payload.as_slice())?;
+    assert!(rt; is_made_by(&whole, f, ANOTHER));
+    assert!(rt; whole.catalog().routine(g).is_none());
+    Ok(())
+}
+
 // The next id is more than that of the last row.
 #[test]
 fn the_whole_leads_to_the_same(rt: HostRuntime) -> Result<(), Fail> {

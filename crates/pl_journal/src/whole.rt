@@ -3,9 +3,9 @@
 ghost use Rattle.std.specs.Prelude.{◌≡◌, ◌∷◌, [], true, Some, IfOk, OnOk};
 ghost use Rattle.pl_base.specs.declared.operation.Op.TheVariants.{Define};
 ghost use Rattle.pl_codec.specs.Spelling.{are_stored};
+ghost use Rattle.pl_define.specs.Definition as made;
 ghost use Rattle.pl_journal.specs.Journal.{LeadsTo};
 ghost use Rattle.pl_journal.specs.Operation.{apply_all, empty};
-ghost use Rattle.pl_journal.specs.Sound as spec;
 ghost use Rattle.pl_journal.specs.Sound.{IsSound};
 ghost use Rattle.pl_journal.specs.Whole.{content_ops, held_ops, row_ops, whole, whole_of};
 ghost use Rattle.pl_journal.specs.Written.{Writes};
@@ -51,10 +51,10 @@ fn push_objects(bytes: &mut Vec<u8>, catalog: &Catalog, tables: &Tables) -> Resu
 }
 
 fn push_object(bytes: &mut Vec<u8>, object: &Object, tables: &Tables) -> Result<(), AllocError>
-    requires { are_stored (Define (spec.text_of object.now)
+    requires { are_stored (Define (made.text_of object.now)
         ∷ held_ops object.now tables.now.current) ≡ true }
     ensures { OnOk result (Writes
-        (Define (spec.text_of object.now) ∷ held_ops object.now tables.now.current)
+        (Define (made.text_of object.now) ∷ held_ops object.now tables.now.current)
         bytes.old.items bytes.new.items) }
 {
     push_define(bytes, text_of(object))?;
@@ -63,7 +63,7 @@ fn push_object(bytes: &mut Vec<u8>, object: &Object, tables: &Tables) -> Result<
 
 // The text of the command that made it.
 fn text_of(object: &Object) -> &[u8]
-    ensures { result.now ≡ spec.text_of object.now }
+    ensures { result.now ≡ made.text_of object.now }
 {
     match object {
         Object::Table(table) => table.text.as_bytes(),

@@ -11,6 +11,8 @@ mod commands;
 #[cfg(test)]
 mod fallen;
 #[cfg(test)]
+mod functions;
+#[cfg(test)]
 mod pieces;
 #[cfg(test)]
 mod queries;

@@ -44,7 +44,7 @@ const PIECES: [(&str, &str); 28] = [
     ("BEGIN", LEFT_OUT),
     ("DO 'x'", LEFT_OUT),
     ("CREATE TABLE n (c integer REFERENCES m)", LEFT_OUT),
-    ("DROP FUNCTION f", LEFT_OUT),
+    ("DROP TRIGGER r ON n", LEFT_OUT),
     // Commands that run, each with its table first.
     ("CREATE TABLE n (c bigint NOT NULL, t text)", CREATED),
     ("CREATE TABLE IF NOT EXISTS n (c integer)", CREATED),

@@ -148,8 +148,8 @@ ERROR:  42P01: undefined_table\nERROR:  23505: unique_violation\nERROR:  23514: 
 id|name|price|sold\n1|mug|10|\n(1 row)\nINSERT 0 1\nERROR:  23505: unique_violation\n\
 count\n2\n(1 row)\nNOTICE:  undefined_table\nDROP TABLE\n";
 
-// What the second script prints over what the first one leaves.
-fn again(alloc: Global, first: &[u8], second: &[u8]) -> Report {
+/// What the second script prints over what the first one leaves.
+pub(crate) fn again(alloc: Global, first: &[u8], second: &[u8]) -> Report {
     match run_fresh(alloc, &PLAIN, first) {
         Ok(ran) => {
             let (a, b) = (ran.host.area(Area::A), ran.host.area(Area::B));

@@ -4,9 +4,9 @@ use Rattle.pl_base.specs.declared.state.State.{State}
 use Rattle.pl_base.specs.States.{DEPENDENT_OBJECTS_STILL_EXIST, FEATURE_NOT_SUPPORTED}
 use Rattle.pl_catalog.specs.Dependents.{first_dependent}
 use Rattle.pl_codec.specs.Spelling.{is_define_text}
-use Rattle.pl_ddl.specs.Definition.{defined}
-use Rattle.pl_ddl.specs.declared.definition.Defined.{Defined}
-use Rattle.pl_ddl.specs.declared.definition.Defined.TheVariants.{Add, Drop, Nothing}
+use Rattle.pl_define.specs.Definition.{defined}
+use Rattle.pl_define.specs.declared.definition.Defined.{Defined}
+use Rattle.pl_define.specs.declared.definition.Defined.TheVariants.{Add, Drop, Nothing, Replace}
 use Rattle.pl_journal.specs.Definitions.{Behind, behind, carried_out, is_stored_object, redefined, unless_needed}
 use Rattle.pl_lex.specs.Characters.{Text}
 use Rattle.pl_meaning.specs.Meaning.{defines, redefines, tag_of}
@@ -17,7 +17,7 @@ use Rattle.pl_print.specs.declared.reply.Tag.{Tag}
 use Rattle.pl_reading.specs.Defining.{stored_by}
 use Rattle.pl_tree.specs.declared.command.Definition.{Definition}
 use Rattle.pl_typing.specs.Resolved.{Resolved}
-use Rattle.pl_undo.specs.Database.{Database, with_object, without_object}
+use Rattle.pl_undo.specs.Database.{Database, with_exchanged, with_object, without_object}
 
 -- whether its text can be stored
 pub can_be_stored : (definition : Definition) (source : Text) → is_define_text source ≡ true → stored_by definition source ≡ Some definition
@@ -55,6 +55,7 @@ stays_by (Ok (Nothing why)) d new state is = let same : behind d (Some why) ≡ 
 stays_by (Ok (Add o)) d new state is =
     (elim (is_stored_object o) as (λ (b : Bool). cond b (let r : Resolved Behind = Ok (behind (with_object o d) None) in r) (Err FEATURE_NOT_SUPPORTED) ≡ Ok (behind new (Some state)) → new ≡ d)
     [ true ↦ λ h. absurd (no_notice (with_object o d) new state h) | false ↦ λ h. absurd (err_ok FEATURE_NOT_SUPPORTED (behind new (Some state)) h) ]) is
+stays_by (Ok (Replace o)) d new state is = absurd (no_notice (with_exchanged o d) new state is)
 stays_by (Ok (Drop w)) d new state is =
     (elim (first_dependent w d.objects) as (λ (o : Option (List ℕ)). unless_needed o (without_object w d) ≡ Ok (behind new (Some state)) → new ≡ d)
     [ Some dependent ↦ λ h. absurd (err_ok DEPENDENT_OBJECTS_STILL_EXIST (behind new (Some state)) h) | None ↦ λ h. absurd (no_notice (without_object w d) new state h) ]) is

@@ -2,7 +2,7 @@ use Rattle.std.proofs.Common.{◌≡◌, ◌∷◌, ◌∙◌, List, ap, slice_g
 use Rattle.std.specs.Option.{option_copied}
 use Rattle.pl_base.specs.declared.operation.Op.TheVariants.{Define}
 use Rattle.pl_catalog.specs.declared.object.Object.{Object}
-use Rattle.pl_journal.specs.Sound.{text_of}
+use Rattle.pl_define.specs.Definition.{text_of}
 use Rattle.pl_journal.specs.Whole.{held_ops, whole_of}
 use Rattle.pl_journal.proofs.WholeParts.{all_left, next_is, none_left, nothing_is, part_stored, rest_left, AreLeft}
 use Rattle.pl_journal.proofs.whole.push_objects.Goals as goal
