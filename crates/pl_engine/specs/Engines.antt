@@ -14,11 +14,7 @@ abbrev pub frame_of : Held Call → Frame
 frame_of f = record {
   routine = f.call.routine;
   is_command = f.call.is_command;
-  static = record {
-    scope = f.call.scope;
-    required = f.call.required;
-    result = f.call.result;
-  };
+  static = f.call.declared;
   values = f.values;
   row_count = f.row_count;
   handled = reverse f.call.handled.items;

@@ -5,8 +5,8 @@ ghost use Rattle.pl_engine.specs.Engines.{frame_of};
 ghost use Rattle.pl_variables.specs.Frames.{frame};
 ghost use Rattle.pl_world.specs.Sessions.{no_call};
 
-use pl_base::{Fail, List, Name, Ty};
-use pl_names::Scope;
+use pl_base::{Fail, Name};
+use pl_declared::Static;
 use std::alloc::Global;
 
 /// What is known of a call beside the values of its variables.
@@ -16,12 +16,8 @@ pub struct Call {
     pub routine: Name,
     /// It is a CALL or a DO.
     pub is_command: bool,
-    /// The variables in reach.
-    pub scope: Scope,
-    /// Which of them take no null.
-    pub required: List<bool>,
-    /// The type of the result, where RETURN gives a value.
-    pub result: Option<Ty>,
+    /// What names are resolved against.
+    pub declared: Static,
     /// The errors that are handled, the newest last.
     pub handled: Vec<Fail>,
 }
@@ -34,12 +30,7 @@ impl Call {
         Call {
             routine: Name::NONE,
             is_command: true,
-            scope: Scope {
-                frames: List::new(alloc),
-                params: List::new(alloc),
-            },
-            required: List::new(alloc),
-            result: None,
+            declared: Static::outside(alloc),
             handled: Vec::new(alloc),
         }
     }

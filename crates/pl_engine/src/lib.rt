@@ -2,6 +2,7 @@
 //! what is printed and committed, and how the answers of functions over both stand to a run.
 #![tactic(auto)]
 
+mod asking;
 mod call;
 mod engine;
 mod port;
@@ -11,12 +12,14 @@ mod runner;
 mod spot;
 mod stop;
 mod telling;
+mod variables;
 
+pub use asking::Ask;
 pub use call::Call;
 pub use engine::Engine;
 pub use port::{Port, PortFail};
 pub use recorder::Recorder;
-pub use runner::{Runner, Task, all};
+pub use runner::{Runner, Task, all, ask};
 pub use spot::Spot;
 pub use stop::Stop;
 pub use telling::{commit, say};
