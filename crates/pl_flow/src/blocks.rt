@@ -1,0 +1,122 @@
+//! Blocks without handlers: PostgreSQL manual, "PL/pgSQL", "Structure of PL/pgSQL".
+
+ghost use Rattle.std.specs.Prelude.{◌≡◌, ◌≤◌, [], OnOk};
+ghost use Rattle.pl_engine.specs.Answers.{Answers};
+ghost use Rattle.pl_engine.specs.Engines.{kept, world};
+ghost use Rattle.pl_engine.specs.Runs.{Runs};
+ghost use Rattle.pl_bodies.specs.declared.statement.Block.{out-Block};
+ghost use Rattle.pl_world.specs.Blocks as spec;
+ghost use Rattle.pl_world.specs.Statements.{runner_for};
+ghost use Rattle.pl_world.specs.declared.outcome.Outcome.TheVariants as outcome;
+
+use pl_base::Name;
+use pl_bodies::{Block, Declaration};
+use pl_engine::{Ask, Engine, Port, Runner, Spot, Stop, Task, all, ask};
+use pl_world::Outcome;
+
+// EXIT names the block.
+fn is_named(label: &Option<Name>, to: &Option<Name>) -> bool
+    ensures { result ≡ spec.is_named label.now to.now }
+{
+    match (label, to) {
+        (Some(label), Some(to)) => label == to,
+        _ => false,
+    }
+}
+
+fn exit_end(label: &Option<Name>, to: Option<Name>) -> Outcome
+    ensures { result ≡ spec.block_end label.now (outcome.Exit to) }
+{
+    if is_named(label, &to) {
+        return Outcome::Next;
+    }
+    Outcome::Exit(to)
+}
+
+fn block_end(label: &Option<Name>, end: Outcome) -> Outcome
+    ensures { result ≡ spec.block_end label.now end }
+{
+    match end {
+        Outcome::Exit(to) => exit_end(label, to),
+        other => other,
+    }
+}
+
+// The declarations, up to the first that fails.
+fn declare<P: Port, F>(
+    runner: &Runner<F>,
+    engine: &mut Engine,
+    port: &mut P,
+    at: Spot,
+    declarations: &[Declaration],
+) -> Result<Outcome, Stop>
+where
+    F: Fn(u64, &mut Engine, &mut P, Task<'_>) -> Result<Outcome, Stop>,
+    requires room { (world engine.old).steps ≤ runner.now.room }
+    requires fits { P.fits (world engine.old).last port.old }
+    requires runs { Runs P.Port runner.now.room (F.pre runner.now.run) (F.post runner.now.run) }
+    ensures is { Answers P.Port
+        (spec.all_declared (runner_for P.bodies runner.now.room) at declarations.now
+        (world engine.old)) result
+        engine.old engine.new port.old port.new }
+    ensures keeps { OnOk result (kept engine.new ≡ kept engine.old) }
+{
+    for declaration in declarations {
+        match ask(runner, engine, port, at, Ask::Declare(declaration))? {
+            Outcome::Next => {}
+            other => return Ok(other),
+        }
+    }
+    Ok(Outcome::Next)
+}
+
+// The declarations, and then the statements.
+fn within<P: Port, F>(
+    runner: &Runner<F>,
+    engine: &mut Engine,
+    port: &mut P,
+    at: Spot,
+    block: &Block,
+) -> Result<Outcome, Stop>
+where
+    F: Fn(u64, &mut Engine, &mut P, Task<'_>) -> Result<Outcome, Stop>,
+    requires room { (world engine.old).steps ≤ runner.now.room }
+    requires fits { P.fits (world engine.old).last port.old }
+    requires runs { Runs P.Port runner.now.room (F.pre runner.now.run) (F.post runner.now.run) }
+    requires plain { (out-Block block.now).handlers ≡ [] }
+    ensures is { Answers P.Port
+        (spec.within_block (runner_for P.bodies runner.now.room) at block.now
+        (world engine.old)) result
+        engine.old engine.new port.old port.new }
+    ensures keeps { OnOk result (kept engine.new ≡ kept engine.old) }
+{
+    match declare(runner, engine, port, at, block.declarations.as_slice())? {
+        Outcome::Next => all(runner, engine, port, block.statements.as_slice()),
+        other => Ok(other),
+    }
+}
+
+/// A block without handlers. Its variables are gone behind it.
+pub fn block<P: Port, F>(
+    runner: &Runner<F>,
+    engine: &mut Engine,
+    port: &mut P,
+    at: Spot,
+    block: &Block,
+) -> Result<Outcome, Stop>
+where
+    F: Fn(u64, &mut Engine, &mut P, Task<'_>) -> Result<Outcome, Stop>,
+    requires room { (world engine.old).steps ≤ runner.now.room }
+    requires fits { P.fits (world engine.old).last port.old }
+    requires runs { Runs P.Port runner.now.room (F.pre runner.now.run) (F.post runner.now.run) }
+    requires plain { (out-Block block.now).handlers ≡ [] }
+    ensures is { Answers P.Port
+        (spec.block (runner_for P.bodies runner.now.room) at block.now (world engine.old)) result
+        engine.old engine.new port.old port.new }
+    ensures keeps { OnOk result (kept engine.new ≡ kept engine.old) }
+{
+    engine.open(block.label)?;
+    let end = within(runner, engine, port, at, block)?;
+    engine.close();
+    Ok(block_end(&block.label, end))
+}

@@ -1,0 +1,20 @@
+//! Statements that steer others: IF, CASE with conditions, loops, FOR over numbers, EXIT, CONTINUE,
+//! and blocks without handlers. What stands inside of them is run by a function that is passed in.
+#![tactic(auto)]
+
+mod answered;
+mod blocks;
+mod branching;
+mod cases;
+mod jumps;
+mod loops;
+mod numbers;
+mod ranges;
+mod turns;
+
+pub use blocks::block;
+pub use branching::branches;
+pub use cases::searched;
+pub use jumps::jump;
+pub use loops::{forever, while_true};
+pub use numbers::{Numbers, for_numbers};
