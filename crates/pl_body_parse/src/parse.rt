@@ -61,11 +61,11 @@ fn shallow_body(alloc: Global, tokens: &[Token], text: &str) -> Result<Body, Fai
     }
 }
 
-/// The body that the tokens spell. They stand in the text, in order. A line is counted from 1, the
-/// rest of the line on which the text begins.
+/// The body that the tokens spell. They stand in the text, in order. A line of it is one more than
+/// the newlines of the text before it.
 ///
-/// TooDeep comes where more than 100 parts are open at a token, then Syntax where the tokens spell
-/// no body.
+/// TooDeep comes at the first token at which more than 100 parts are open, then Syntax where the
+/// tokens spell no body. Memory may come whatever they spell, and NotSupported never comes.
 pub fn parse_body(alloc: Global, tokens: &[Token], text: &str) -> Result<Body, ParseFail>
     requires placed { Placed text.now tokens.now }
     requires short { length text.now < 2 ^ 32 - 1 }

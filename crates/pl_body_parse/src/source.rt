@@ -18,7 +18,7 @@ use std::alloc::Global;
 pub(crate) struct Source<'a> {
     pub(crate) text: &'a str,
     pub(crate) tokens: &'a [Token],
-    /// Those on which the tokens begin.
+    /// For each token the line on which it begins, from 1.
     pub(crate) lines: &'a [u32],
     ghost lined: { lines.now ≡ map (λ (t : OneToken). spec.line_at text.now t.start) tokens.now },
 }

@@ -181,7 +181,7 @@ impl Catalog {
         }
     }
 
-    /// No change can be undone from now on. Frees what was dropped.
+    /// No change can be undone from now on. Frees what was dropped or replaced.
     pub fn forget(&mut self)
         ensures objects { self.new.objects ≡ self.old.objects }
         ensures past { self.new.past ≡ [] }

@@ -4,4 +4,5 @@ mod Asked
 mod Copying
 mod LeftOut
 mod Noted
+mod Standing
 mod Turns

@@ -66,6 +66,11 @@ module _ {W : Type 0} (s : Setting W) where
       (ap (λ (os : List Object). then_read (settled (written os s.change.table id row before.tables) w) (λ tables w. told s row (progress tables rows) w)) same
       ∙ (ap (λ (o : Result (List Named) State). then_read (settled o w) (λ tables w. told s row (progress tables rows) w)) leads ∙ told_same copied row (progress after rows) w is)) reads
 
+  -- without RETURNING the row that is shown is empty
+  pub untold : (row : Row) (p : Progress) (w : W) → s.change.returning ≡ [] → told s row p w ≡ got (progress p.tables (p.returned ++ [] ∷ [])) w
+  untold row p w is =
+      ap (λ (list : List RExpr). then_read (values (map (value s.calls s.inner) list) [] (s.around ++ row ∷ []) w) (λ shown w. got (progress p.tables (p.returned ++ shown ∷ [])) w)) is
+
   -- it wasn't
   pub refused : (A : Type 0) (id : Option ℕ) (row : Row) (before : Database) (after : List Named) (rows : List Row) (w : W) (why : Unsettled) → s.objects ≡ before.objects
       → Leads {A = A} (written before.objects s.change.table id row before.tables) (Err why) after → Reads {A = Progress} (writes s id row (progress before.tables rows) w) (Err why) w

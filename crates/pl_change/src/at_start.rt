@@ -60,12 +60,8 @@ fn lend_rows<'s>(alloc: Global, rows: &'s [Cells]) -> Result<Vec<Lent<'s>>, Allo
     Ok(lent)
 }
 
-/// Copies of the tables of these names.
-pub(crate) fn copy_tables(
-    alloc: Global,
-    journal: &Journal,
-    names: &[Name],
-) -> Result<Copies, AllocError>
+/// Copies of the tables of these names as they are now. A name that no table has gets no rows.
+pub fn copy_tables(alloc: Global, journal: &Journal, names: &[Name]) -> Result<Copies, AllocError>
     ensures { IfOk result (λ copies. AgreeOn names.now (copied copies.list.items)
         (tables_of journal.now.now.tables)) }
 {
@@ -95,7 +91,8 @@ fn copy_rows(alloc: Global, rows: &[Lent<'_>]) -> Result<List<Cells>, AllocError
     Ok(copied)
 }
 
-pub(crate) fn copy_row(alloc: Global, row: &[Value]) -> Result<Cells, AllocError>
+/// A copy of the row.
+pub fn copy_row(alloc: Global, row: &[Value]) -> Result<Cells, AllocError>
     ensures { IfOk result (λ copied. copied ≡ row.now) }
 {
     copy_each(

@@ -1,6 +1,6 @@
 //! Whole commands.
 
-ghost use Rattle.std.specs.Prelude.{◌≡◌, [], List};
+ghost use Rattle.std.specs.Prelude.{◌≡◌, [], List, OnOk};
 ghost use Rattle.pl_catalog.specs.declared.object.Object.{Object};
 ghost use Rattle.pl_change.specs.Changes as spec;
 ghost use Rattle.pl_change.specs.Changes.{progress};
@@ -15,7 +15,7 @@ use crate::Command;
 use crate::asking::asks;
 use crate::at_start::copy_tables;
 use crate::by_key::ids_for;
-use crate::evaluation::stand;
+use crate::evaluation::{pop_row, push_row, stand, with_room};
 use crate::rows::{add_row, delete_row, update_row};
 use pl_base::{Boxed, Cells, List};
 use pl_inside::tables_read;
@@ -61,26 +61,29 @@ fn insert_values<'a, C: Caller, S: Subqueries<C>>(
     Ok(rows)
 }
 
-// One row for a row that was found.
+// One row for a row that was found, which stands behind those around the command.
 fn insert_one<'a, C: Caller, S: Subqueries<C>>(
     alloc: Global,
     command: &Command<'a>,
     values: &'a [RExpr],
+    frame: &mut Vec<Lent<'a>>,
     found: &'a Cells,
     sub: &S,
     journal: &mut Journal,
     rows: Rows,
     caller: &mut C,
 ) -> Result<Rows, Unsettled>
-    requires { S.can sub.now }
+    requires can { S.can sub.now }
+    requires around { frame.old.items ≡ command.now.around.now }
+    ensures around { OnOk result (frame.new.items ≡ command.now.around.now) }
     ensures reads { (objects : List Object) → objects ≡ journal.old.now.objects
         → Reads (spec.adds_found (setting_of C.calls (S.sub sub.now) objects command.now) values.now
         found.now (progress journal.old.now.tables rows) caller.old)
         (reached result journal.new.now.tables) caller.new }
     ensures only { ChangesOnly command.now.change.now.table journal.old journal.new }
 {
-    let frame = stand(alloc, &*command.around, found.as_slice())?;
-    add_row(
+    push_row(frame, found.as_slice())?;
+    let added = add_row(
         alloc,
         &*command,
         values,
@@ -89,7 +92,9 @@ fn insert_one<'a, C: Caller, S: Subqueries<C>>(
         journal,
         rows,
         caller,
-    )
+    );
+    pop_row(frame);
+    added
 }
 
 // One row for each row that was found.
@@ -109,9 +114,12 @@ fn insert_found<'a, C: Caller, S: Subqueries<C>>(
         (reached result journal.new.now.tables) caller.new }
     ensures only { ChangesOnly command.now.change.now.table journal.old journal.new }
 {
+    let mut frame = with_room(alloc, &*command.around)?;
     let mut rows = Rows::new(alloc);
     for row in found {
-        match insert_one(alloc, &*command, values, row, sub, journal, rows, caller) {
+        match insert_one(
+            alloc, &*command, values, &mut frame, row, sub, journal, rows, caller,
+        ) {
             Ok(more) => rows = more,
             Err(why) => return Err(why),
         }

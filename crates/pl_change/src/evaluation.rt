@@ -1,6 +1,7 @@
 //! The expressions of a command over the rows that stand.
 
-ghost use Rattle.std.specs.Prelude.{◌≡◌, [], ◌∷◌, ◌++◌, option_map, List, IfOk};
+ghost use Rattle.std.specs.Prelude.{◌≡◌, ◌-◌, [], ◌∷◌, ◌++◌, length, option_map, take, List, IfOk};
+ghost use Rattle.std.specs.Prelude.{OnOk};
 ghost use Rattle.pl_catalog.specs.declared.object.Object.{Object};
 ghost use Rattle.pl_change.specs.Changes as spec;
 ghost use Rattle.pl_change.specs.Running.{setting_of};
@@ -16,6 +17,30 @@ use pl_resolved::RExpr;
 use pl_value::{Caller, Lent, Subqueries, Unsettled, passes, values};
 use std::alloc::{AllocError, Global};
 
+/// Those that stand around, with room for a row behind them.
+pub(crate) fn with_room<'a>(alloc: Global, around: &[Lent<'a>]) -> Result<Vec<Lent<'a>>, AllocError>
+    ensures { IfOk result (λ made. made.items ≡ around.now) }
+{
+    let mut made = Vec::with_capacity(alloc, around.len().saturating_add(1))?;
+    made.extend_from_slice(around)?;
+    Ok(made)
+}
+
+/// Puts the row behind those that stand.
+pub(crate) fn push_row<'a>(frame: &mut Vec<Lent<'a>>, row: &'a [Value]) -> Result<(), AllocError>
+    ensures { OnOk result (frame.new.items ≡ frame.old.items ++ record { cells = row.entry } ∷ []) }
+{
+    frame.push(Lent { cells: row })?;
+    Ok(())
+}
+
+/// Takes the last of the rows that stand away.
+pub(crate) fn pop_row(frame: &mut Vec<Lent<'_>>)
+    ensures { frame.new.items ≡ take (length frame.old.items - 1) frame.old.items }
+{
+    frame.pop();
+}
+
 /// The row behind those that stand around.
 pub(crate) fn stand<'a>(
     alloc: Global,
@@ -24,8 +49,8 @@ pub(crate) fn stand<'a>(
 ) -> Result<Vec<Lent<'a>>, AllocError>
     ensures { IfOk result (λ made. rows_of made.items ≡ rows_of around.now ++ row.now ∷ []) }
 {
-    let mut made = Vec::from_slice(alloc, around)?;
-    made.push(Lent { cells: row })?;
+    let mut made = with_room(alloc, around)?;
+    push_row(&mut made, row)?;
     Ok(made)
 }
 

@@ -10,7 +10,7 @@ mod evaluation;
 mod rows;
 mod writing;
 
-pub use at_start::{Copied, Copies};
+pub use at_start::{Copied, Copies, copy_row, copy_tables};
 pub use command::Command;
 pub use commands::change;
 

@@ -50,8 +50,8 @@ fn add_shown<C>(rows: Rows, shown: Cells) -> Result<Rows, Unsettled>
     Ok(rows)
 }
 
-// RETURNING of a row that was written.
-fn tell<C: Caller, S: Subqueries<C>>(
+// What RETURNING shows of a row that was written.
+fn tell_shown<C: Caller, S: Subqueries<C>>(
     alloc: Global,
     command: &Command<'_>,
     row: &[Value],
@@ -68,6 +68,27 @@ fn tell<C: Caller, S: Subqueries<C>>(
         Ok(shown) => add_shown::<C>(rows, shown),
         Err(why) => Err(why),
     }
+}
+
+// RETURNING of a row that was written. Where there is none, no row has to stand.
+fn tell<C: Caller, S: Subqueries<C>>(
+    alloc: Global,
+    command: &Command<'_>,
+    row: &[Value],
+    sub: &S,
+    rows: Rows,
+    caller: &mut C,
+) -> Result<Rows, Unsettled>
+    requires { S.can sub.now }
+    ensures { (objects : List Object) (tables : List Named) → Reads (spec.told (setting_of C.calls
+        (S.sub sub.now) objects command.now) row.now (progress tables rows) caller.old)
+        (reached result tables) caller.new }
+{
+    if command.change.returning.is_empty() {
+        let shown = List::new(alloc);
+        return add_shown::<C>(rows, shown);
+    }
+    tell_shown(alloc, &*command, row, sub, rows, caller)
 }
 
 // A copy of the row, if RETURNING wants one.

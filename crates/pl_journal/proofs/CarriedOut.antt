@@ -1,10 +1,10 @@
--- Definitions that are carried out: what they add isn't there, what they drop or replace is, and a
--- journal stays kept.
-use Rattle.std.proofs.Common.{◌≡◌, ◌∙◌, ◌++◌, ℕ, List, Option, None, Some, Ok, ap, subst}
+-- Definitions that are carried out: what they add isn't there, what they drop or replace is, what
+-- they replace is no table, and a journal stays kept.
+use Rattle.std.proofs.Common.{◌≡◌, ◌∙◌, ◌++◌, ℕ, List, [], ◌∷◌, Option, None, Some, Ok, ap, refl, subst, sym}
 use Rattle.std.specs.Prelude.{is_some, IsSome}
 use Rattle.pl_base.specs.declared.operation.Op.TheVariants.{Define}
 use Rattle.pl_base.specs.declared.state.State.{State}
-use Rattle.pl_catalog.specs.Objects.{object_called, which_of}
+use Rattle.pl_catalog.specs.Objects.{object_called, tables_in, which_of}
 use Rattle.pl_catalog.specs.declared.object.Object.{Object}
 use Rattle.pl_catalog.specs.declared.object.Which.{Which}
 use Rattle.pl_codec.specs.ReadBack.{OpReadsBack}
@@ -31,6 +31,9 @@ module _ (known objects : List Object) (same : known ≡ objects) (definition : 
 
   pub replaced_there : (o : Object) → d ≡ Replace o → IsSome (object_called (which_of o) objects)
   replaced_there o same_d = ap (λ (x : Option Object). is_some x) (laws.replaced_there objects definition text o (gives (Replace o) same_d)).1
+
+  pub replaced_plain : (o : Object) → d ≡ Replace o → tables_in (o ∷ []) ≡ []
+  replaced_plain o same_d = subst (λ (x : Object). tables_in (x ∷ []) ≡ []) (sym (laws.replaced_routine objects definition text o (gives (Replace o) same_d)).1) refl
 
   pub dropped_there : (w : Which) → d ≡ Drop w → IsSome (object_called w objects)
   dropped_there w same_d = ap (λ (o : Option Object). is_some o) (laws.dropped_there objects definition text w (gives (Drop w) same_d)).1

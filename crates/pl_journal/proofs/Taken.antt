@@ -17,7 +17,7 @@ use Rattle.pl_tables.specs.Named.{Named, content_named, is_full_named, on_table,
 use Rattle.pl_tables.specs.Rows.{Content, Holds, inserted, is_full, key_at, replaced, row_at}
 use Rattle.pl_unique.specs.Key.{key_of}
 use Rattle.pl_unique.specs.declared.key.Part.{Part}
-use Rattle.pl_unique.proofs.Parts.{told, holds}
+use Rattle.pl_unique.specs.Parts.{told, holds}
 use Rattle.pl_value.specs.Frames.{Row}
 
 -- an element that passes, and its place

@@ -1,7 +1,7 @@
 //! Definitions that are carried out, each with its operation in the payload.
 
-ghost use Rattle.std.specs.Prelude.{◌≡◌, None, Some, Ok, IsSome, OnErr};
-ghost use Rattle.pl_catalog.specs.Objects.{object_called, which_of};
+ghost use Rattle.std.specs.Prelude.{◌≡◌, ◌∷◌, [], None, Some, Ok, IsSome, OnErr};
+ghost use Rattle.pl_catalog.specs.Objects.{object_called, tables_in, which_of};
 ghost use Rattle.pl_catalog.specs.declared.object.Object.TheVariants as object;
 ghost use Rattle.pl_define.specs.declared.definition.Defined.TheVariants.{Add, Drop, Replace};
 ghost use Rattle.pl_journal.specs.Definitions as spec;
@@ -58,9 +58,10 @@ fn add_object(store: &mut Store, object: Object) -> Result<Option<State>, ScopeF
     }
 }
 
-// Puts the object in the place of the one of its kind and name, which is there.
+// Puts the object, which is no table, in the place of the one of its kind and name, which is there.
 fn replace_object(store: &mut Store, object: Object) -> Result<Option<State>, ScopeFail>
     requires there { IsSome (object_called (which_of object) store.old.now.objects) }
+    requires plain { tables_in (object ∷ []) ≡ [] }
     ensures redefines { Redefines (carried_out (Ok (Replace object)) store.old.now) result
         store.new.now }
     ensures err { OnErr result (store.new.now ≡ store.old.now) }

@@ -31,6 +31,8 @@ pub struct Journal {
     pub(crate) store: Store,
     /// The operations, spelled.
     pub(crate) payload: Vec<u8>,
+    /// The operation on a row that was spelled last.
+    pub(crate) spelling: Vec<u8>,
 }
 
 impl Model for Journal {
@@ -59,6 +61,7 @@ impl Journal {
             alloc,
             store: Store::new(alloc),
             payload: Vec::new(alloc),
+            spelling: Vec::new(alloc),
         }
     }
 
@@ -119,7 +122,14 @@ impl Journal {
         ensures only { ChangesOnly name self.old self.new }
         ensures err { OnErr result (self.new.now ≡ self.old.now) }
     {
-        insert_row(self.alloc, &mut self.store, &mut self.payload, name, row)
+        insert_row(
+            self.alloc,
+            &mut self.store,
+            &mut self.spelling,
+            &mut self.payload,
+            name,
+            row,
+        )
     }
 
     /// Puts the row in the place of the one of this id, in the table of this name: PostgreSQL
@@ -134,6 +144,7 @@ impl Journal {
         replace_row(
             self.alloc,
             &mut self.store,
+            &mut self.spelling,
             &mut self.payload,
             name,
             id,
@@ -148,7 +159,13 @@ impl Journal {
         ensures only { ChangesOnly name self.old self.new }
         ensures err { OnErr result (self.new.now ≡ self.old.now) }
     {
-        remove_row(self.alloc, &mut self.store, &mut self.payload, name, id)
+        remove_row(
+            &mut self.store,
+            &mut self.spelling,
+            &mut self.payload,
+            name,
+            id,
+        )
     }
 
     /// The database now becomes that of the last commit.

@@ -1,4 +1,5 @@
-//! Spellings of operations, put behind a payload.
+//! Spellings of operations, put behind a payload. One on a row is first made in a list that is kept
+//! from row to row, so that it takes no memory for each.
 
 ghost use Rattle.std.specs.Prelude.{◌≡◌, ◌<◌, ◌++◌, true, length, OnOk, OnErr};
 ghost use Rattle.std.specs.List.{list_all};
@@ -30,7 +31,7 @@ pub(crate) fn spell_define(
 
 /// A Put of this row.
 pub(crate) fn spell_put(
-    alloc: Global,
+    spelling: &mut Vec<u8>,
     payload: &mut Vec<u8>,
     table: &Name,
     id: u64,
@@ -45,14 +46,14 @@ pub(crate) fn spell_put(
     ensures read_back { OnOk result (OpReadsBack (Put table.now id row.now)) }
     ensures err { OnErr result (payload.new.items ≡ payload.old.items) }
 {
-    let mut spelling = Vec::new(alloc);
-    push_put(&mut spelling, table, id, row)?;
+    spelling.clear();
+    push_put(spelling, table, id, row)?;
     payload.extend_from_slice(spelling.as_slice())
 }
 
 /// A Remove of the row of this id.
 pub(crate) fn spell_remove(
-    alloc: Global,
+    spelling: &mut Vec<u8>,
     payload: &mut Vec<u8>,
     table: &Name,
     id: u64,
@@ -63,7 +64,7 @@ pub(crate) fn spell_remove(
     ensures read_back { OnOk result (OpReadsBack (Remove table.now id)) }
     ensures err { OnErr result (payload.new.items ≡ payload.old.items) }
 {
-    let mut spelling = Vec::new(alloc);
-    push_remove(&mut spelling, table, id)?;
+    spelling.clear();
+    push_remove(spelling, table, id)?;
     payload.extend_from_slice(spelling.as_slice())
 }

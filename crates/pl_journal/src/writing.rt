@@ -75,8 +75,8 @@ fn next_id(store: &Store, name: Name) -> Option<u64>
 
 // Adds a row that keeps its rules, under the id that a new row gets.
 fn add_row(
-    alloc: Global,
     store: &mut Store,
+    spelling: &mut Vec<u8>,
     payload: &mut Vec<u8>,
     name: Name,
     id: u64,
@@ -92,7 +92,7 @@ fn add_row(
     ensures err { OnErr result (store.new.now ≡ store.old.now) }
 {
     let size = payload.len();
-    spell_put(alloc, payload, &name, id, row.as_slice())?;
+    spell_put(spelling, payload, &name, id, row.as_slice())?;
     match store.insert(name, row) {
         Ok(_) => Ok(()),
         Err(fail) => Err(refuse(payload, size, fail)),
@@ -103,6 +103,7 @@ fn add_row(
 pub(crate) fn insert_row(
     alloc: Global,
     store: &mut Store,
+    spelling: &mut Vec<u8>,
     payload: &mut Vec<u8>,
     name: Name,
     row: Cells,
@@ -116,15 +117,15 @@ pub(crate) fn insert_row(
 {
     judge(alloc, &*store, name, &row)?;
     match next_id(&*store, name) {
-        Some(id) => add_row(alloc, store, payload, name, id, row),
+        Some(id) => add_row(store, spelling, payload, name, id, row),
         None => Err(Unsettled::Fails(State::PROGRAM_LIMIT_EXCEEDED)),
     }
 }
 
 // Puts a row that keeps its rules in the place of the one of this id.
 fn change_row(
-    alloc: Global,
     store: &mut Store,
+    spelling: &mut Vec<u8>,
     payload: &mut Vec<u8>,
     name: Name,
     id: u64,
@@ -140,7 +141,7 @@ fn change_row(
     ensures err { OnErr result (store.new.now ≡ store.old.now) }
 {
     let size = payload.len();
-    spell_put(alloc, payload, &name, id, row.as_slice())?;
+    spell_put(spelling, payload, &name, id, row.as_slice())?;
     match store.replace(name, id, row) {
         Ok(()) => Ok(()),
         Err(fail) => Err(refuse(payload, size, fail)),
@@ -151,6 +152,7 @@ fn change_row(
 pub(crate) fn replace_row(
     alloc: Global,
     store: &mut Store,
+    spelling: &mut Vec<u8>,
     payload: &mut Vec<u8>,
     name: Name,
     id: u64,
@@ -165,13 +167,13 @@ pub(crate) fn replace_row(
     ensures err { OnErr result (store.new.now ≡ store.old.now) }
 {
     judge(alloc, &*store, name, &row)?;
-    change_row(alloc, store, payload, name, id, row)
+    change_row(store, spelling, payload, name, id, row)
 }
 
 /// Takes the row of this id out of the table of this name.
 pub(crate) fn remove_row(
-    alloc: Global,
     store: &mut Store,
+    spelling: &mut Vec<u8>,
     payload: &mut Vec<u8>,
     name: Name,
     id: u64,
@@ -184,7 +186,7 @@ pub(crate) fn remove_row(
     ensures err { OnErr result (store.new.now ≡ store.old.now) }
 {
     let len = payload.len();
-    spell_remove(alloc, payload, &name, id)?;
+    spell_remove(spelling, payload, &name, id)?;
     match store.remove(name, id) {
         Ok(()) => Ok(()),
         Err(fail) => {

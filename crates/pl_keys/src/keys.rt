@@ -52,6 +52,16 @@ impl Keys {
         }
     }
 
+    /// No rows, with room for so many.
+    pub fn with_room(alloc: Global, count: usize) -> Result<Keys, AllocError>
+        ensures { IfOk result (λ keys. keys ≡ []) }
+    {
+        Ok(Keys {
+            rows: Vec::with_capacity(alloc, count)?,
+            places: HashMap::with_capacity(alloc, count)?,
+        })
+    }
+
     pub fn len(&self) -> usize
         ensures { result ≡ length self.now }
     {

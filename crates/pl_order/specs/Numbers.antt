@@ -1,4 +1,4 @@
--- Rows by an item that is a whole number.
+-- How the code sorts rows by an item that is a whole number; no definition.
 use Rattle.std.specs.Prelude.{ℕ, ℤ, pos, Bool, List, Option, Some, None, is_some, unwrap_or}
 use Rattle.std.specs.Ordering.{int_cmp}
 use Rattle.std.specs.declared.cmp.Ordering.{Ordering}

@@ -11,7 +11,7 @@ use std::alloc::{AllocError, Global};
 pub fn distinct(alloc: Global, rows: Vec<Cells>) -> Result<Vec<Cells>, AllocError>
     ensures { IfOk result (λ kept. kept.items ≡ firsts rows.items) }
 {
-    let mut keys = Keys::new(alloc);
+    let mut keys = Keys::with_room(alloc, rows.len())?;
     for row in rows {
         keys.find_or_add(row)?;
     }

@@ -13,7 +13,7 @@ use std::alloc::AllocError;
 use std::cmp::Reverse;
 
 /// The item is a number in each row.
-pub fn have_numbers(rows: &[Cells], item: usize) -> bool
+pub(crate) fn have_numbers(rows: &[Cells], item: usize) -> bool
     ensures { result ≡ list_all (has_number item) rows.now }
 {
     for row in rows {
@@ -25,7 +25,7 @@ pub fn have_numbers(rows: &[Cells], item: usize) -> bool
 }
 
 /// Puts the rows in the order of the numbers.
-pub fn sort_by_number(rows: &mut Vec<Cells>, key: &RKey) -> Result<(), AllocError>
+pub(crate) fn sort_by_number(rows: &mut Vec<Cells>, key: &RKey) -> Result<(), AllocError>
     requires { list_all (has_number key.now.item) rows.old.items ≡ true }
     ensures ok { OnOk result (rows.new.items
         ≡ sorted (order_by (key.now ∷ [])) rows.old.items) }

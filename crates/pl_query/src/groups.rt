@@ -36,7 +36,7 @@ pub fn select_each<'a, C: Caller, S: Subqueries<C>>(
         items.now)) frames.now [] caller.old)
         result caller.new }
 {
-    let mut rows = Rows::new(alloc);
+    let mut rows = Rows::with_room(alloc, frames.len())?;
     for at in 0..frames.len() {
         match add_row(alloc, items, sub, frames.get(at), rows, caller) {
             Ok(more) => rows = more,

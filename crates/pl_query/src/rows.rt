@@ -1,6 +1,6 @@
 //! Rows that a query makes.
 
-ghost use Rattle.std.specs.Prelude.{◌≡◌, [], ◌∷◌, ◌++◌, OnOk};
+ghost use Rattle.std.specs.Prelude.{◌≡◌, [], ◌∷◌, ◌++◌, IfOk, OnOk};
 
 use pl_base::Cells;
 use std::alloc::{AllocError, Global};
@@ -32,6 +32,15 @@ impl Rows {
         Rows {
             list: Vec::new(alloc),
         }
+    }
+
+    /// No rows, with room for so many.
+    pub fn with_room(alloc: Global, count: usize) -> Result<Rows, AllocError>
+        ensures { IfOk result (λ rows. rows ≡ []) }
+    {
+        Ok(Rows {
+            list: Vec::with_capacity(alloc, count)?,
+        })
     }
 
     pub fn from_vec(list: Vec<Cells>) -> Rows

@@ -82,11 +82,11 @@ fn read_tokens(
     }
 }
 
-/// The body of the routine of which this is declared.
+/// The text, read as the body of a routine of which this is declared.
 ///
 /// `Bad` comes where a lexeme is bad, then `TooDeep` where more than 100 parts are open at a token,
 /// then `Syntax` where the tokens spell no body, then `Breach` where the body breaks a rule that is
-/// tested when its routine is created.
+/// tested when its routine is created. `Memory` may come whatever the text is.
 #[tactic(auto, using(crate::proofs::Answered::of_tokens))]
 pub fn read_body(alloc: Global, text: &str, heading: &Heading<'_>) -> Result<Body, BodyFail>
     requires short { length text.now < 2 ^ 32 - 1 }

@@ -1,4 +1,4 @@
-//! Tests of bodies as they are read with their rules: 709 bodies with an outline of their tree, or
+//! Tests of bodies as they are read with their rules: 710 bodies with an outline of their tree, or
 //! with why they are refused. `tools/body-cases` asks a PostgreSQL server of each.
 //!
 //! An outline has the kind of each statement, with its line and its number:

@@ -85,9 +85,13 @@ fn command_word(command: &Command) -> &'static str {
     }
 }
 
+// A definition has its own text too.
 fn write_command(out: &mut Words, command: &Command) {
     out.word("command");
     out.word(command_word(command));
+    if let Command::Define { source, .. } = command {
+        out.quoted(source.as_bytes());
+    }
 }
 
 // ---- RAISE

@@ -10,7 +10,7 @@ ghost use Rattle.pl_tables.specs.Undo.{at_rest, content, kept, laid, with_gap, w
 ghost use Rattle.pl_tables.specs.Undo.{with_slot, IsGap, IsInOrder, MayLay};
 
 use crate::Slot;
-use crate::slots::{fitted, fitted_if, place_of, pop_slot, push_slot, restore, seek, swap_row};
+use crate::slots::{fitted_if, place_of, pop_slot, push_slot, restore, seek, swap_row};
 use pl_base::Cells;
 use std::alloc::{AllocError, Global};
 use std::marker::Model;
@@ -131,13 +131,12 @@ impl Heap {
         }
     }
 
-    /// Adds a row behind the others, where one can be added.
-    pub(crate) fn append(&mut self, alloc: Global, row: Cells) -> Result<(), AllocError>
+    /// Adds a row behind the others, where one can be added. It keeps the room that it came in.
+    pub(crate) fn append(&mut self, row: Cells) -> Result<(), AllocError>
         requires room { is_full (content [] self.old.current) ≡ false }
         ensures ok { OnOk result (self.new ≡ changed (with_slot row self.old.current) self.old) }
         ensures err { OnErr result (self.new ≡ self.old) }
     {
-        let row = fitted(alloc, row)?;
         self.changes.reserve(1)?;
         self.slots.reserve(1)?;
         let id = self.next;

@@ -18,8 +18,8 @@ pub struct Slot {
     pub row: Option<Cells>,
 }
 
-/// The row in just the room that its values take. A list that grew by pushes has room for more.
-pub(crate) fn fitted(alloc: Global, row: Cells) -> Result<Cells, AllocError>
+// The row in just the room that its values take. A list that grew by pushes has room for more.
+fn fitted(alloc: Global, row: Cells) -> Result<Cells, AllocError>
     ensures { IfOk result (λ made. made ≡ row) }
 {
     let mut made = List::from_vec(Vec::with_capacity(alloc, row.len())?);
@@ -27,7 +27,7 @@ pub(crate) fn fitted(alloc: Global, row: Cells) -> Result<Cells, AllocError>
     Ok(made)
 }
 
-/// The same, if there is a row.
+/// The row, if there is one, in just the room that its values take.
 pub(crate) fn fitted_if(alloc: Global, row: Option<Cells>) -> Result<Option<Cells>, AllocError>
     ensures { IfOk result (λ made. made ≡ row) }
 {

@@ -143,7 +143,8 @@ impl Table {
     }
 
     /// Adds the row and answers its id. Full where there are 1,000,000 rows, or the next id is
-    /// 2^63, and else Taken where another row has a key of it.
+    /// 2^63, and else Taken where another row has a key of it. The row keeps the room that it came
+    /// in, so a list with room for more values takes that much more memory.
     pub fn insert(&mut self, row: Cells) -> Result<u64, TableFail>
         ensures full { (result ≡ Err TableFail.Full) ↔ IsTrue (is_full self.old.current) }
         ensures taken { (id : _) → result ≡ Err (TableFail.Taken id)
@@ -160,7 +161,7 @@ impl Table {
             Err(fail) => Err(refusal(&self.heap, fail)),
             Ok(()) => {
                 let id = self.heap.next();
-                match self.heap.append(self.alloc, row) {
+                match self.heap.append(row) {
                     Ok(()) => Ok(id),
                     Err(_) => {
                         undo_keys(&mut self.keys);

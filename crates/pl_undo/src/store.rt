@@ -4,7 +4,7 @@ ghost use Rattle.std.specs.Prelude.{◌≡◌, ◌≢◌, ◌<◌, ◌≤◌, �
 ghost use Rattle.std.specs.Prelude.{length, slice_get, take, true, false, Err, IfOk, IsSome};
 ghost use Rattle.std.specs.Prelude.{OnOk, OnErr};
 ghost use Rattle.std.specs.Option.{ForSome};
-ghost use Rattle.pl_catalog.specs.Objects.{which_of};
+ghost use Rattle.pl_catalog.specs.Objects.{tables_in, which_of};
 ghost use Rattle.pl_catalog.specs.Refusals.{Answers, add_refusal, drop_refusal, replace_refusal};
 ghost use Rattle.pl_tables.specs.Named.{content_named, has_room_named, is_full_named};
 ghost use Rattle.pl_tables.specs.Named.{next_named, row_named, HoldsIn};
@@ -113,9 +113,10 @@ impl Store {
         create_object(self.alloc, &mut self.catalog, &mut self.tables, object)
     }
 
-    /// Puts the object in the place of the one of its kind and name; what a table holds stays.
-    /// Absent where none is there.
+    /// Puts the object, which is no table, in the place of the one of its kind and name. Absent
+    /// where none is there.
     pub fn replace_object(&mut self, object: Object) -> Result<(), CatalogFail>
+        requires plain { tables_in (object ∷ []) ≡ [] }
         ensures answers { Answers result (replace_refusal (which_of object) self.old.now.objects) }
         ensures ok { OnOk result (self.new.now ≡ with_exchanged object self.old.now) }
         ensures err { OnErr result (self.new.now ≡ self.old.now) }

@@ -1,21 +1,27 @@
 //! Sequences of changes and marks.
 
-ghost use Rattle.std.specs.Prelude.{◌≡◌, IsSome, true};
+ghost use Rattle.std.specs.Prelude.{◌≡◌, ◌∷◌, [], IfOk, IsSome, true};
+ghost use Rattle.pl_catalog.specs.Objects.{tables_in};
 ghost use Rattle.pl_tables.specs.Named.{content_named, row_named};
 
 mod random;
 
 use crate::{Mark, Store};
 use pl_base::{Cells, List, Name, Txt, Value};
-use pl_catalog::{Object, Rule, RuleKind, TableDef, Which};
+use pl_bodies::{Block, Body};
+use pl_catalog::{Heading, Object, Routine, RoutineBody, Rule, RuleKind, TableDef, Which};
 use pl_tables::TableFail;
+use pl_tree::{ResultType, RoutineKind};
 use std::alloc::{AllocError, Global};
 use std::test::Fail;
 
 #[derive(Clone, Copy)]
 enum Step {
+    // A table and a routine of its name.
     Create,
+    // The routine.
     Exchange(u8),
+    // Both.
     Drop,
     Insert(i32),
     Replace(u64, i32),
@@ -48,8 +54,8 @@ fn has_row(store: &Store, name: Name, id: u64) -> bool
     }
 }
 
-// A table whose number is its key, made by a text of this byte.
-fn table(alloc: Global, name: Name, text: u8) -> Result<Object, AllocError> {
+// A table whose number is its key.
+fn table(alloc: Global, name: Name) -> Result<Object, AllocError> {
     let mut columns = List::new(alloc);
     columns.push(0)?;
     let mut rules = List::new(alloc);
@@ -59,31 +65,71 @@ fn table(alloc: Global, name: Name, text: u8) -> Result<Object, AllocError> {
     })?;
     Ok(Object::Table(TableDef {
         name,
-        text: Txt::from_slice(alloc, [text].as_slice())?,
+        text: Txt::from_slice(alloc, b"a table")?,
         columns: List::new(alloc),
         rules,
     }))
 }
 
-fn create(alloc: Global, store: &mut Store, name: Name) -> Result<(), Fail> {
-    match store.create(table(alloc, name, b'a')?) {
-        Ok(()) => Ok(()),
-        Err(_) => Err(Fail::new("no table is added")),
+// BEGIN END
+fn empty_body(alloc: Global) -> Body {
+    Body {
+        line: 1,
+        block: Block {
+            label: None,
+            declarations: List::new(alloc),
+            statements: List::new(alloc),
+            handlers: List::new(alloc),
+            end_label: None,
+        },
     }
+}
+
+// A routine made by a text of this byte.
+fn routine(alloc: Global, name: Name, text: u8) -> Result<Object, AllocError>
+    ensures { IfOk result (λ object. tables_in (object ∷ []) ≡ []) }
+{
+    Ok(Object::Routine(Routine {
+        name,
+        text: Txt::from_slice(alloc, [text].as_slice())?,
+        heading: Heading {
+            kind: RoutineKind::Function,
+            params: List::new(alloc),
+            result: ResultType::Absent,
+        },
+        body: RoutineBody::new(alloc, empty_body(alloc))?,
+    }))
+}
+
+fn add(store: &mut Store, object: Object) -> Result<(), Fail> {
+    match store.create(object) {
+        Ok(()) => Ok(()),
+        Err(_) => Err(Fail::new("no object is added")),
+    }
+}
+
+fn create(alloc: Global, store: &mut Store, name: Name) -> Result<(), Fail> {
+    add(store, table(alloc, name)?)?;
+    add(store, routine(alloc, name, b'a')?)
 }
 
 fn exchange(alloc: Global, store: &mut Store, name: Name, text: u8) -> Result<(), Fail> {
-    match store.replace_object(table(alloc, name, text)?) {
+    match store.replace_object(routine(alloc, name, text)?) {
         Ok(()) => Ok(()),
-        Err(_) => Err(Fail::new("no table is replaced")),
+        Err(_) => Err(Fail::new("no routine is replaced")),
     }
 }
 
-fn drop_table(store: &mut Store, name: Name) -> Result<(), Fail> {
-    match store.drop_object(Which::Table(name)) {
+fn drop_one(store: &mut Store, which: Which) -> Result<(), Fail> {
+    match store.drop_object(which) {
         Ok(()) => Ok(()),
-        Err(_) => Err(Fail::new("no table is dropped")),
+        Err(_) => Err(Fail::new("no object is dropped")),
     }
+}
+
+fn drop_both(store: &mut Store, name: Name) -> Result<(), Fail> {
+    drop_one(store, Which::Table(name))?;
+    drop_one(store, Which::Routine(name))
 }
 
 fn insert(store: &mut Store, name: Name, row: Cells) -> Result<(), Fail> {
@@ -140,7 +186,7 @@ fn play(alloc: Global, store: &mut Store, name: Name, step: Step) -> Result<(), 
     match step {
         Step::Create => create(alloc, store, name),
         Step::Exchange(text) => exchange(alloc, store, name, text),
-        Step::Drop => drop_table(store, name),
+        Step::Drop => drop_both(store, name),
         Step::Insert(number) => insert(store, name, row(alloc, number)?),
         Step::Replace(id, number) => replace(store, name, id, row(alloc, number)?),
         Step::Remove(id) => remove(store, name, id),

@@ -1,5 +1,5 @@
+pub mod Alone
 pub mod Columns
 pub mod Numbers
-pub mod Parts
 pub mod Same
 pub mod RowKeys

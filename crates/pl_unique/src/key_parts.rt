@@ -1,14 +1,14 @@
 //! The parts of a key as a map keeps them.
 
 ghost use Rattle.std.specs.Prelude.{◌≡◌, ◌∷◌, [], IfOk};
-ghost use Rattle.std.specs.Hash as fed;
 ghost use Rattle.std.specs.Cmp.Lexicographic.{lists_equiv};
 ghost use Rattle.std.specs.Cmp.{partial_equiv_from_equiv};
 ghost use Rattle.pl_unique.specs.contracts.key.PartEq.TheImpl.Laws as equal;
-ghost use Rattle.pl_unique.specs.contracts.key.PartHash.TheImpl as hashed;
-ghost use Rattle.pl_unique.specs.contracts.key.PartHash.TheImpl.Laws as hashes;
+ghost use Rattle.pl_unique.specs.declared.key.Part.TheVariants.{Number};
+ghost use Rattle.pl_unique.specs.Fed.{alone, fed_key, number_in};
 ghost use Rattle.pl_unique.specs.Key.{key_of};
 ghost use Rattle.pl_unique.specs.Numbered.{same_key};
+ghost use Rattle.pl_unique.specs.Parts.{fed_alike};
 
 use crate::key::{Part, key_of, part_at};
 use indexmap::Equivalent;
@@ -89,25 +89,83 @@ impl Eq for KeyParts {
 }
 
 impl Hash for KeyParts {
-    ghost hash_input = { fed.slice (hashed.ghosts).hash_input };
+    ghost hash_input = { fed_key };
 
-    ghost respects_eq = { (fed.items_Alike (record { fed = hashes.respects_eq-law })).fed };
+    ghost respects_eq = { fed_alike };
 
     fn hash<H: Hasher>(&self, state: &mut H) {
-        self.as_slice().hash(state);
+        let asked = Asked {
+            parts: self.as_slice(),
+        };
+        asked.hash(state);
     }
 }
 
-impl Equivalent<KeyParts> for &[Part] {
-    ghost equivalent = { λ q k. same_key q.now k };
+/// Parts by which a key is looked up.
+#[derive(Clone, Copy, PartialEq, Eq)]
+pub(crate) struct Asked<'a> {
+    pub parts: &'a [Part],
+}
 
-    ghost respects_hash = { λ q k.
-        (fed.items_Alike (record { fed = hashes.respects_eq-law })).fed q.now k };
+// A number that is alone is hashed as such, which a look-up of a number then does without parts.
+impl<'a> Hash for Asked<'a> {
+    ghost hash_input = { λ q. fed_key q.parts.now };
 
-    ghost respects_eq = { λ q x y. (lists_equiv equal.laws-law).congr q.now x y };
+    ghost respects_eq = { λ q r. fed_alike q.parts.now r.parts.now };
+
+    fn hash<H: Hasher>(&self, state: &mut H) {
+        match alone(self.parts) {
+            Some(number) => number.hash(state),
+            None => self.parts.hash(state),
+        }
+    }
+}
+
+impl<'a> Equivalent<KeyParts> for Asked<'a> {
+    ghost equivalent = { λ q k. same_key q.parts.now k };
+
+    ghost respects_hash = { λ q. fed_alike q.parts.now };
+
+    ghost respects_eq = { λ q x y. (lists_equiv equal.laws-law).congr q.parts.now x y };
 
     fn equivalent(&self, key: &KeyParts) -> bool {
-        *self == key.as_slice()
+        self.parts == key.as_slice()
+    }
+}
+
+/// A number stands for the key that has it alone.
+impl Equivalent<KeyParts> for i64 {
+    ghost equivalent = { λ q k. same_key (Number q ∷ []) k };
+
+    ghost respects_hash = { λ q. fed_alike (Number q ∷ []) };
+
+    ghost respects_eq = { λ q x y. (lists_equiv equal.laws-law).congr (Number q ∷ []) x y };
+
+    fn equivalent(&self, key: &KeyParts) -> bool {
+        match alone(key.as_slice()) {
+            Some(number) => *self == number,
+            None => false,
+        }
+    }
+}
+
+/// The number of a key that has no other part.
+pub(crate) fn alone(parts: &[Part]) -> Option<i64>
+    ensures { result ≡ alone parts.now }
+{
+    match parts {
+        [] => None,
+        [part] => number_in(part),
+        [_, _, ..] => None,
+    }
+}
+
+fn number_in(part: &Part) -> Option<i64>
+    ensures { result ≡ number_in part.now }
+{
+    match part {
+        Part::Number(number) => Some(*number),
+        Part::Text(_) | Part::Truth(_) => None,
     }
 }
 

@@ -3,6 +3,7 @@
 ghost use Rattle.std.specs.Prelude.{◌≡◌, ◌≢◌, ◌∷◌, ◌++◌, ◌↔◌, ℕ, [], Some, length, slice_get};
 ghost use Rattle.std.specs.Prelude.{IfOk, OnOk, OnErr};
 
+use crate::key_parts::{Asked, alone};
 use crate::{KeyParts, Part};
 use indexmap::IndexSet;
 use std::alloc::{AllocError, Global};
@@ -44,7 +45,10 @@ impl Keys {
     pub(crate) fn number_of(&self, key: &[Part]) -> Option<usize>
         ensures { (n : _) → (result ≡ Some n) ↔ (slice_get self.now n ≡ Some key.now) }
     {
-        self.set.get_index_of(key)
+        match alone(key) {
+            Some(number) => self.set.get_index_of(number),
+            None => self.set.get_index_of(Asked { parts: key }),
+        }
     }
 
     /// Adds a key that isn't there, and answers its number.

@@ -16,6 +16,7 @@ mod world;
 pub use combined::{better, combine, is_in};
 pub use expression::{passes, value, values};
 pub use operand::{Lent, Operand, Unsettled};
+pub use standing::{cell_at, leaf};
 pub use world::{Caller, NoQueries, NoRoutines, Subqueries};
 
 #[cfg(test)]

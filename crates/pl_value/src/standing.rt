@@ -12,7 +12,7 @@ use pl_base::Value;
 use pl_resolved::RExpr;
 
 /// The value at a place of the rows that stand. None where there is none.
-pub(crate) fn cell_at<'a>(frame: &[Lent<'a>], row: usize, column: usize) -> Option<&'a Value>
+pub fn cell_at<'a>(frame: &[Lent<'a>], row: usize, column: usize) -> Option<&'a Value>
     ensures { option_copied result ≡ cell (rows_of frame.now) row column }
 {
     match frame.get(row) {
@@ -32,7 +32,7 @@ pub(crate) fn placed<'a>(frame: &[Lent<'a>], row: usize, column: usize) -> Opera
 }
 
 /// The value of an expression that names one which stands. None where it has to be made.
-pub(crate) fn leaf<'a, C>(e: &'a RExpr, frame: &[Lent<'a>]) -> Option<&'a Value>
+pub fn leaf<'a, C>(e: &'a RExpr, frame: &[Lent<'a>]) -> Option<&'a Value>
     ensures { IfSome result (λ v. (calls : Calls C) (sub : Sub C) (caller : C)
         → spec.value calls sub e.now (rows_of frame.now) caller ≡ got v.now caller) }
 {

@@ -8,7 +8,8 @@ use std::test::Fail;
 
 const STEPS: u64 = 10_000;
 
-// A table: whether it is there, since which turn and by which text, its next id and its rows by id.
+// A table and a routine of its name: whether they are there, since which turn and by which text the
+// routine, the table's next id and its rows by id.
 #[derive(Drop)]
 struct Plain {
     is_there: bool,
@@ -173,13 +174,13 @@ fn is_same(alloc: Global, store: &Store, name: Name, table: &Plain) -> Result<bo
                 && is_made_by(store, name, table.text)
                 && rows.as_slice() == table.rows.as_slice(),
         ),
-        None => Ok(!table.is_there),
+        None => Ok(!table.is_there && store.catalog().routine(name).is_none()),
     }
 }
 
 fn is_made_by(store: &Store, name: Name, text: u8) -> bool {
-    match store.catalog().table(name) {
-        Some(table) => table.text.as_bytes() == [text].as_slice(),
+    match store.catalog().routine(name) {
+        Some(routine) => routine.text.as_bytes() == [text].as_slice(),
         None => false,
     }
 }

@@ -13,4 +13,5 @@ invariant-loop-row g l =
           → in_turn (adds_found (setting_of g.C.Caller.calls (g.S.Subqueries.sub l.sub) objects l.command) l.values) l.found (progress l.fn.journal.now.tables []) l.fn.caller
           ≡ in_turn (adds_found (setting_of g.C.Caller.calls (g.S.Subqueries.sub l.sub) objects l.command) l.values) (drop l.row-index l.found) (progress l.journal.now.tables l.rows) l.caller;
       only : ChangesOnly l.command.change.now.table l.fn.journal l.journal;
+      around : l.frame.items ≡ l.command.around.now;
     }

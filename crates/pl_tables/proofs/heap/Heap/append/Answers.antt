@@ -1,5 +1,4 @@
 use Rattle.std.proofs.Common.{◌≡◌, ◌+◌, ◌++◌, ◌∷◌, [], ◌∙◌, refl, Some, List, sym, ap, subst, length, arith}
-use Rattle.pl_base.specs.declared.value.Value.{Value}
 use Rattle.pl_history.specs.History.{History, changed, history}
 use Rattle.pl_tables.specs.declared.slots.Slot.{Slot}
 use Rattle.pl_tables.specs.declared.heap.Change.{Change}
@@ -15,7 +14,7 @@ invariant_of-self-2 c =
     let ss = c.self.inside.slots.items in
     let cs = c.self.inside.changes.items in
     let next = c.self.inside.next in
-    let s : Slot = record { id = next; row = Some c.in_ok-row.row } in
+    let s : Slot = record { id = next; row = Some c.args.row } in
     let slots : c.push_reserved.new.self.items ≡ ss ++ s ∷ [] = c.push_reserved.ensures.items ∙ ap (λ (xs : List Slot). xs ++ s ∷ []) c.reserve-2.ensures.items in
     let is : c.push_reserved-2.new.self.items ≡ cs ++ Added ∷ [] = c.push_reserved-2.ensures.items ∙ ap (λ (ds : List Change). ds ++ Added ∷ []) c.reserve.ensures.items in
     let undone : undo_one Added (kept c.push_reserved.new.self.items (next + 1)) ≡ kept ss next = ap (λ (xs : List Slot). undo_one Added (kept xs (next + 1))) slots ∙ back_added ss s next in
@@ -31,11 +30,10 @@ returns-clause-ok c =
     let ss = c.self.inside.slots.items in
     let cs = c.self.inside.changes.items in
     let next = c.self.inside.next in
-    let s : Slot = record { id = next; row = Some c.in_ok-row.row } in
+    let s : Slot = record { id = next; row = Some c.args.row } in
     let slots : c.push_reserved.new.self.items ≡ ss ++ s ∷ [] = c.push_reserved.ensures.items ∙ ap (λ (xs : List Slot). xs ++ s ∷ []) c.reserve-2.ensures.items in
     let is : c.push_reserved-2.new.self.items ≡ cs ++ Added ∷ [] = c.push_reserved-2.ensures.items ∙ ap (λ (ds : List Change). ds ++ Added ∷ []) c.reserve.ensures.items in
     let undone : undo_one Added (kept c.push_reserved.new.self.items (next + 1)) ≡ kept ss next = ap (λ (xs : List Slot). undo_one Added (kept xs (next + 1))) slots ∙ back_added ss s next in
     gone_on cs c.push_reserved-2.new.self.items Added (kept ss next) (kept c.push_reserved.new.self.items (next + 1)) is undone
     ∙ (ap (λ (xs : List Slot). changed (kept xs (next + 1)) (history undo_one cs (kept ss next))) slots
-    ∙ (ap (λ (h : History Kept). changed (with_slot c.in_ok-row.row h.current) h) c.self.view_is
-    ∙ ap (λ (row : List Value). changed (with_slot row c.args.self.now.current) c.args.self.now) c.in_ok-row.ensures))
+    ∙ ap (λ (h : History Kept). changed (with_slot c.args.row h.current) h) c.self.view_is)

@@ -2,7 +2,7 @@ use Rattle.std.proofs.Common.{◌≡◌, ◌++◌, ◌∷◌, [], ◌∙◌, Lis
 use Rattle.std.specs.List.{slice_get, list_any}
 use Rattle.pl_unique.specs.declared.key.Part.{Part}
 use Rattle.pl_unique.specs.Numbered.{same_key}
-use Rattle.pl_unique.proofs.Parts.{told, holds}
+use Rattle.pl_unique.specs.Parts.{told, holds}
 use Rattle.pl_unique.proofs.Same.{none_is}
 use Rattle.pl_unique.proofs.known.Keys.add.Goals as goal
 

@@ -7,6 +7,7 @@ use Rattle.std.proofs.lemmas.Slice.Eq.{slice_eq-Decides}
 use Rattle.pl_unique.specs.declared.key.Part.{Part}
 use Rattle.pl_unique.specs.declared.key.Part.TheVariants.{Number, Text, Truth}
 use Rattle.pl_unique.specs.contracts.key.PartPartialEq.TheImpl as parts
+use Rattle.pl_unique.specs.Fed.{fed_key}
 use Rattle.pl_unique.specs.Numbered.{same_key}
 
 pub part_decides : (a b : Part) → Decides ((parts.ghosts).eq a b) (a ≡ b)
@@ -25,3 +26,6 @@ told a b is = (slice_eq-Decides part_decides a b (same_key a b) refl).0 is
 
 pub holds : (a b : List Part) → a ≡ b → same_key a b ≡ true
 holds a b is = (slice_eq-Decides part_decides a b (same_key a b) refl).1 is
+
+pub fed_alike : (a b : List Part) → same_key a b ≡ true → fed_key a ≡ fed_key b
+fed_alike a b is = ap fed_key (told a b is)
