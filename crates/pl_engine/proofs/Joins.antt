@@ -22,7 +22,7 @@ use Rattle.pl_world.specs.declared.outcome.Outcome.{Outcome}
 
 -- ---- events
 
-behind_behind : {O : Type 0} (a b : List Event) (r : Ran O) → behind a (behind b r) ≡ behind (a ++ b) r
+pub behind_behind : {O : Type 0} (a b : List Event) (r : Ran O) → behind a (behind b r) ≡ behind (a ++ b) r
 behind_behind a b (made w o es) = ap (λ (xs : List Event). made w o xs) (sym (append_assoc a b es))
 
 pub behind_none : {O : Type 0} (r : Ran O) → r ≡ behind [] r
@@ -31,7 +31,7 @@ behind_none (made w o es) = refl
 events_behind : {O : Type 0} (a : List Event) (r : Ran O) → events (behind a r) ≡ a ++ events r
 events_behind a (made w o es) = refl
 
-outward-append : (a b : List Event) → outward (a ++ b) ≡ outward a ++ outward b
+pub outward-append : (a b : List Event) → outward (a ++ b) ≡ outward a ++ outward b
 outward-append [] b = refl
 outward-append (Stepped spot ∷ a) b = outward-append a b
 outward-append (Raised f ∷ a) b = outward-append a b
@@ -39,7 +39,7 @@ outward-append (Began what ∷ a) b = outward-append a b
 outward-append (Said lines ∷ a) b = ap (λ (xs : List trace.Event). trace.Said lines ∷ xs) (outward-append a b)
 outward-append (Committed db ∷ a) b = ap (λ (xs : List trace.Event). trace.Committed db ∷ xs) (outward-append a b)
 
-stepped_in-append : (a b : List Event) → stepped_in (a ++ b) ≡ stepped_in a + stepped_in b
+pub stepped_in-append : (a b : List Event) → stepped_in (a ++ b) ≡ stepped_in a + stepped_in b
 stepped_in-append [] b = omega arith
 stepped_in-append (Stepped spot ∷ a) b = let i = stepped_in-append a b in omega arith
 stepped_in-append (Raised f ∷ a) b = stepped_in-append a b
@@ -172,11 +172,11 @@ module _ {P : Type 0} {port : Ghosts P} (law : Lawful port) where
 
   -- ---- stops
 
-  cut_more : {stop : Stop} {db : Database} {taken left : List trace.Event} {p q : P} (more : List trace.Event) → Cut port stop db taken left p q → Cut port stop db taken (left ++ more) p q
+  pub cut_more : {stop : Stop} {db : Database} {taken left : List trace.Event} {p q : P} (more : List trace.Event) → Cut port stop db taken left p q → Cut port stop db taken (left ++ more) p q
   cut_more more (between is t) = between is t
   cut_more more (at e rest mid is t tried blame) = at e (rest ++ more) mid (ap (λ (xs : List trace.Event). xs ++ more) is) t tried blame
 
-  cut_behind : {stop : Stop} {db : Database} {a taken left : List trace.Event} {p m q : P} → port.took db a p m → Cut port stop (last_commit a db) taken left m q → Cut port stop db (a ++ taken) left p q
+  pub cut_behind : {stop : Stop} {db : Database} {a taken left : List trace.Event} {p m q : P} → port.took db a p m → Cut port stop (last_commit a db) taken left m q → Cut port stop db (a ++ taken) left p q
   cut_behind {stop} {db} {a} {taken} {left} {p} {m} {q} t (between is u) = between is (law.joins db a taken p m q t u)
   cut_behind {stop} {db} {a} {taken} {left} {p} {m} {q} t (at e rest mid is u tried blame) = at e rest mid is (law.joins db a taken p m mid t u)
       (subst (λ (d : Database). port.tried d e mid q) (sym (last_commit-append a taken db)) tried) blame

@@ -1,4 +1,5 @@
 pub mod Joins
 pub mod Lists
+pub mod Popping
 pub mod Rises
 pub mod Tells

@@ -40,7 +40,6 @@ module _ {P : Type 0} (port : Ghosts P) where
   abbrev pub Blame : Stop → trace.Event → P → P → Type 0
   Blame Disk (trace.Committed db) p q = port.disk_faults p < port.disk_faults q
   Blame Say (trace.Said lines) p q = port.say_faults p < port.say_faults q
-  Blame Memory e p q = Unit {0}
   Blame stop e p q = ⊥
 
   -- Where a stop cut the events: between two of them, for want of memory, or at the first that

@@ -1,5 +1,6 @@
 -- What statements have their expressions asked, and how each is answered.
 use Rattle.std.specs.Prelude.{ℤ, Bool}
+use Rattle.pl_base.specs.declared.value.Value.{Value}
 use Rattle.pl_base.specs.declared.value.Value.TheVariants.{Bool as Truth, Int}
 use Rattle.pl_engine.specs.declared.asking.Ask.{Ask}
 use Rattle.pl_engine.specs.declared.asking.Ask.TheVariants as ask
@@ -18,6 +19,10 @@ truth b w = ends (outcome.Return (Truth b)) w
 -- a number is
 abbrev pub number : ℤ → World → Ran Outcome
 number z w = ends (outcome.Return (Int z)) w
+
+-- a value is
+abbrev pub returned : Value → World → Ran Outcome
+returned v w = ends (outcome.Return v) w
 
 abbrev pub asked : Runner → Spot → Ask → World → Ran Outcome
 asked r at (ask.Test e) w = tested r at e.now w truth

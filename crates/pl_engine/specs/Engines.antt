@@ -1,12 +1,14 @@
 -- The world that an engine stands for, and what an engine leaves as it was.
-use Rattle.std.specs.Prelude.{◌≡◌, ℕ, suc, Bool, true, false, List, [], ◌∷◌, map, reverse}
+use Rattle.std.specs.Prelude.{◌≡◌, ℕ, suc, Bool, true, false, List, [], ◌∷◌, ◌++◌, map, reverse}
+use Rattle.pl_base.specs.declared.value.Value.{Value}
+use Rattle.pl_base.specs.declared.value.Value.TheVariants.{Bool as Truth}
 use Rattle.pl_engine.specs.declared.engine.Engine.{Engine}
 use Rattle.pl_engine.specs.declared.call.Call.{Call}
 use Rattle.pl_names.specs.Names.{Name}
 use Rattle.pl_variables.specs.declared.frames.Frame.{Frame as Held}
 use Rattle.pl_world.specs.Scripts.{outward}
-use Rattle.pl_world.specs.World.{Event, Stepped, Raised, Began, Said, Committed, Frame, Ran, World}
-use Rattle.pl_world.specs.World.{made}
+use Rattle.pl_world.specs.World.{Event, Stepped, Raised, Began, Said, Committed, Frame, Ran}
+use Rattle.pl_world.specs.World.{Static, World, made}
 
 -- ---- the world
 
@@ -30,6 +32,22 @@ world e = record {
   depth = e.depth;
   in_block = e.in_block;
   changing = reverse e.changing.items;
+}
+
+-- ---- calls
+
+-- a call is entered, in which names mean this
+abbrev pub with_call : Name → Bool → Static → List Value → World → World
+with_call routine is_command static values w = record w {
+  frame = record {
+    routine = routine;
+    is_command = is_command;
+    static = static;
+    values = values ++ Truth false ∷ [];
+    row_count = 0;
+    handled = [];
+  };
+  below = w.frame ∷ w.below;
 }
 
 -- ---- what statements do to it

@@ -1,5 +1,5 @@
--- A count that rose where a device failed.
-use Rattle.std.specs.Prelude.{◌<◌, ℕ, Result, Ok, Err}
+-- A count that rose where a device failed, and is as it was for want of memory.
+use Rattle.std.specs.Prelude.{◌≡◌, ◌<◌, ℕ, Result, Ok, Err}
 use Rattle.pl_engine.specs.declared.port.PortFail.{PortFail}
 use Rattle.pl_engine.specs.declared.port.PortFail.TheVariants.{Device, Memory}
 
@@ -7,4 +7,4 @@ use Rattle.pl_engine.specs.declared.port.PortFail.TheVariants.{Device, Memory}
 abbrev pub Rose : Result (Unit {0}) PortFail → ℕ → ℕ → Type 0
 Rose (Ok u) old new = Unit {0}
 Rose (Err Device) old new = old < new
-Rose (Err Memory) old new = Unit {0}
+Rose (Err Memory) old new = new ≡ old

@@ -1,7 +1,9 @@
 pub mod Faults
 pub mod Engines
+pub mod Texts
 pub mod Answers
 pub mod Asks
 pub mod Runs
 pub mod Recorded
+pub mod Holding
 pub mod RecordedLaws

@@ -9,6 +9,7 @@ use Rattle.pl_engine.specs.declared.port.Port.{Ghosts}
 use Rattle.pl_engine.specs.declared.runner.Task.{Task}
 use Rattle.pl_engine.specs.declared.runner.Task.TheVariants as task
 use Rattle.pl_engine.specs.declared.stop.Stop.{Stop}
+use Rattle.pl_engine.specs.Texts.{do_bodies}
 use Rattle.pl_world.specs.Running.{Bodies, body, statement}
 use Rattle.pl_world.specs.Statements.{run_within, runner_for}
 use Rattle.pl_world.specs.World.{World, Ran}
@@ -31,7 +32,7 @@ pub record Runs {P : Type 0} (port : Ghosts P) (room : ℕ)
   pub runs : (old new : MutBor Engine) (p q : MutBor P) (t : Task) (r : Result Outcome Stop)
       → (world old.now).steps ≤ room → port.fits (world old.now).last p.now
       → post room old p t r new q
-      → Answers port (run_as port.bodies room t (world old.now)) r
+      → Answers port (run_as do_bodies room t (world old.now)) r
       old.now new.now p.now q.now
   pub keeps : (old new : MutBor Engine) (p q : MutBor P) (t : Task) (r : Result Outcome Stop)
       → (world old.now).steps ≤ room → port.fits (world old.now).last p.now

@@ -43,6 +43,11 @@ impl Engine {
         }
     }
 
+    /// Where memory comes from.
+    pub fn alloc(&self) -> Global {
+        self.alloc
+    }
+
     /// The database, and that of the last commit.
     pub fn journal(&self) -> &Journal
         ensures now { result.now.now ≡ (world self.now).database }

@@ -3,8 +3,11 @@
 #![tactic(auto)]
 
 mod asking;
+mod bodies;
 mod call;
 mod engine;
+mod entering;
+mod held;
 mod port;
 mod raising;
 mod recorder;
@@ -15,8 +18,10 @@ mod telling;
 mod variables;
 
 pub use asking::Ask;
+pub use bodies::{BodyRunner, Calls};
 pub use call::Call;
 pub use engine::Engine;
+pub use held::Held;
 pub use port::{Port, PortFail};
 pub use recorder::Recorder;
 pub use runner::{Runner, Task, all, ask};

@@ -1,10 +1,10 @@
 //! Where what is printed and committed goes.
 
-ghost use Rattle.std.specs.Prelude.{◌≤◌, ◌++◌, ◌∷◌, [], ℕ, List, OnOk, OnErr};
+ghost use Rattle.std.specs.Prelude.{◌≤◌, ◌++◌, ◌∷◌, [], ℕ, List, OnOk, OnErr, IsErrOf};
 ghost use Rattle.pl_engine.specs.Faults.{Rose};
+ghost use Rattle.pl_engine.specs.declared.port.PortFail.TheVariants.{Memory};
 ghost use Rattle.pl_meaning.specs.Trace.{Event, Said, Committed, last_commit};
 ghost use Rattle.pl_undo.specs.Database.{Database};
-ghost use Rattle.pl_world.specs.Running.{Bodies};
 
 use pl_journal::Journal;
 
@@ -13,14 +13,12 @@ use pl_journal::Journal;
 pub enum PortFail {
     /// Its device failed.
     Device,
+    /// There was no memory. Nothing of the event was taken.
     Memory,
 }
 
 /// Where what is printed and committed goes. No port need keep what it took.
 pub trait Port {
-    /// What the text of a DO is read as.
-    ghost bodies: { Bodies };
-
     /// It may be used, and what it stores is this database.
     ghost fits: { Database → Self → Type 0 };
 
@@ -43,6 +41,8 @@ pub trait Port {
             (took db (Said lines.now ∷ []) self.old self.new × fits db self.new) }
         ensures err { (db : Database) → fits db self.old → OnErr result
             (tried db (Said lines.now) self.old self.new) }
+        ensures memory { (db : Database) → fits db self.old → IsErrOf result Memory
+            → took db [] self.old self.new }
         ensures fault { Rose result (say_faults self.old) (say_faults self.new) };
 
     /// Stores what was done to the database of this journal since its last commit.
@@ -53,6 +53,7 @@ pub trait Port {
         ensures stored { OnOk result (fits journal.now.now self.new) }
         ensures err { OnErr result
             (tried journal.now.last (Committed journal.now.now) self.old self.new) }
+        ensures memory { IsErrOf result Memory → took journal.now.last [] self.old self.new }
         ensures fault { Rose result (disk_faults self.old) (disk_faults self.new) };
 
     /// No event is taken by doing nothing.

@@ -1,8 +1,9 @@
 //! A port in memory.
 
-ghost use Rattle.std.specs.Prelude.{◌≡◌, [], OnOk};
+ghost use Rattle.std.specs.Prelude.{◌≡◌, [], IsErrOf, OnOk};
 ghost use Rattle.pl_engine.specs.Faults.{Rose};
 ghost use Rattle.pl_engine.specs.Recorded.{taken};
+ghost use Rattle.pl_engine.specs.declared.port.PortFail.TheVariants.{Memory};
 
 use crate::port::{Port, PortFail};
 use pl_base::Txt;
@@ -54,6 +55,7 @@ impl Recorder {
     fn works(&mut self) -> Result<(), PortFail>
         ensures taken { taken self.new ≡ taken self.old }
         ensures faults { OnOk result (self.new.faults ≡ self.old.faults) }
+        ensures memory { IsErrOf result Memory → self.new.faults ≡ self.old.faults }
         ensures fault { Rose result self.old.faults self.new.faults }
     {
         if self.left > 0 {
@@ -69,14 +71,11 @@ impl Recorder {
 }
 
 impl Port for Recorder {
-    ghost use Rattle.std.specs.Prelude.{◌≡◌, Err};
+    ghost use Rattle.std.specs.Prelude.{◌≡◌};
     ghost use Rattle.std.proofs.Common.{refl};
-    ghost use Rattle.pl_base.specs.States.{FEATURE_NOT_SUPPORTED};
     ghost use Rattle.pl_engine.specs.Recorded.{Lead, Takes, taken};
     ghost use Rattle.pl_engine.specs.RecordedLaws.{counts_join, counts_rise, takes_join};
     ghost use Rattle.pl_journal.specs.Operation.{empty};
-
-    ghost bodies = { record { read = λ text. Err FEATURE_NOT_SUPPORTED } };
 
     ghost fits = { λ db r. Lead r.payloads.items empty db };
 

@@ -6,6 +6,7 @@ ghost use Rattle.pl_engine.specs.Answers.{Answers};
 ghost use Rattle.pl_engine.specs.Asks.{asked};
 ghost use Rattle.pl_engine.specs.Engines.{kept, world};
 ghost use Rattle.pl_engine.specs.Runs.{Runs};
+ghost use Rattle.pl_engine.specs.Texts.{do_bodies};
 ghost use Rattle.pl_world.specs.Running as spec;
 ghost use Rattle.pl_world.specs.Running.{statement};
 ghost use Rattle.pl_world.specs.Statements.{run_within, runner_for};
@@ -49,7 +50,7 @@ where
     requires fits { P.fits (world engine.old).last port.old }
     requires runs { Runs P.Port runner.now.room (F.pre runner.now.run) (F.post runner.now.run) }
     ensures is { Answers P.Port
-        (run_within P.bodies runner.now.room (statement s.now) (world engine.old)) result
+        (run_within do_bodies runner.now.room (statement s.now) (world engine.old)) result
         engine.old engine.new port.old port.new }
     ensures keeps { OnOk result (kept engine.new ≡ kept engine.old) }
 {
@@ -69,7 +70,7 @@ where
     requires fits { P.fits (world engine.old).last port.old }
     requires runs { Runs P.Port runner.now.room (F.pre runner.now.run) (F.post runner.now.run) }
     ensures is { Answers P.Port
-        (spec.all (runner_for P.bodies runner.now.room) statements.now (world engine.old)) result
+        (spec.all (runner_for do_bodies runner.now.room) statements.now (world engine.old)) result
         engine.old engine.new port.old port.new }
     ensures keeps { OnOk result (kept engine.new ≡ kept engine.old) }
 {
@@ -96,7 +97,7 @@ where
     requires fits { P.fits (world engine.old).last port.old }
     requires runs { Runs P.Port runner.now.room (F.pre runner.now.run) (F.post runner.now.run) }
     ensures is { Answers P.Port
-        (asked (runner_for P.bodies runner.now.room) at what.entry (world engine.old)) result
+        (asked (runner_for do_bodies runner.now.room) at what.entry (world engine.old)) result
         engine.old engine.new port.old port.new }
     ensures keeps { OnOk result (kept engine.new ≡ kept engine.old) }
 {

@@ -6,9 +6,31 @@ ghost use Rattle.pl_world.specs.Variables as spec;
 
 use crate::engine::Engine;
 use pl_base::{Name, Ty, Value};
+use pl_declared::Static;
 use std::alloc::AllocError;
 
 impl Engine {
+    /// What names are resolved against in the newest call.
+    pub fn declared(&self) -> &Static
+        ensures { result.now ≡ (world self.now).frame.static }
+    {
+        &self.frames.newest().call.declared
+    }
+
+    /// The variables of the newest call, by their places.
+    pub fn values(&self) -> &[Value]
+        ensures { result.now ≡ spec.row_of (world self.now).frame }
+    {
+        self.frames.newest().values.as_slice()
+    }
+
+    /// ROW_COUNT of the newest call.
+    pub fn row_count(&self) -> u64
+        ensures { result ≡ (world self.now).frame.row_count }
+    {
+        self.frames.newest().row_count
+    }
+
     /// A block is opened.
     #[tactic(auto, unfolding(pl_world::specs::Variables::opened))]
     pub fn open(&mut self, label: Option<Name>) -> Result<(), AllocError>

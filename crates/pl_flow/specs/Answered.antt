@@ -1,4 +1,4 @@
--- What was answered to what statements ask, and how turns of loops end.
+-- How the code reads answers to what statements ask, and the ends of turns; no definition.
 use Rattle.std.specs.Prelude.{ℤ, Bool, if◌then◌else◌, List, Option, None, Result, Ok, Err}
 use Rattle.pl_base.specs.States.{QUERY_CANCELED}
 use Rattle.pl_base.specs.declared.value.Value.TheVariants.{Int}

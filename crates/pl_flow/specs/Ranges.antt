@@ -1,4 +1,4 @@
--- The numbers of a FOR.
+-- How the code counts the numbers of a FOR; no definition.
 use Rattle.std.specs.Prelude.{FitsSigned, ◌≡◌, ℤ, List, [], ◌∷◌, Option, Some, None}
 use Rattle.std.specs.Int.{w32}
 use Rattle.std.specs.List.{AllByRecursion}

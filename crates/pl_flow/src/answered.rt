@@ -8,7 +8,8 @@ ghost use Rattle.pl_value.specs.Combined as combined;
 use pl_base::Value;
 use pl_world::Outcome;
 
-fn is_true(v: &Value) -> bool
+/// The value is true; null isn't.
+pub fn is_true(v: &Value) -> bool
     ensures { result ≡ combined.is_true v.now }
 {
     match v {
@@ -18,7 +19,7 @@ fn is_true(v: &Value) -> bool
 }
 
 /// The truth that was answered, null as false.
-pub(crate) fn truth_of(answer: Outcome) -> Result<bool, Outcome>
+pub fn truth_of(answer: Outcome) -> Result<bool, Outcome>
     ensures { result ≡ spec.truth_of answer }
 {
     match answer {

@@ -4,6 +4,7 @@ ghost use Rattle.std.specs.Prelude.{◌≡◌, ◌≤◌, [], OnOk};
 ghost use Rattle.pl_engine.specs.Answers.{Answers};
 ghost use Rattle.pl_engine.specs.Engines.{kept, world};
 ghost use Rattle.pl_engine.specs.Runs.{Runs};
+ghost use Rattle.pl_engine.specs.Texts.{do_bodies};
 ghost use Rattle.pl_bodies.specs.declared.statement.Block.{out-Block};
 ghost use Rattle.pl_world.specs.Blocks as spec;
 ghost use Rattle.pl_world.specs.Statements.{runner_for};
@@ -56,7 +57,7 @@ where
     requires fits { P.fits (world engine.old).last port.old }
     requires runs { Runs P.Port runner.now.room (F.pre runner.now.run) (F.post runner.now.run) }
     ensures is { Answers P.Port
-        (spec.all_declared (runner_for P.bodies runner.now.room) at declarations.now
+        (spec.all_declared (runner_for do_bodies runner.now.room) at declarations.now
         (world engine.old)) result
         engine.old engine.new port.old port.new }
     ensures keeps { OnOk result (kept engine.new ≡ kept engine.old) }
@@ -85,7 +86,7 @@ where
     requires runs { Runs P.Port runner.now.room (F.pre runner.now.run) (F.post runner.now.run) }
     requires plain { (out-Block block.now).handlers ≡ [] }
     ensures is { Answers P.Port
-        (spec.within_block (runner_for P.bodies runner.now.room) at block.now
+        (spec.within_block (runner_for do_bodies runner.now.room) at block.now
         (world engine.old)) result
         engine.old engine.new port.old port.new }
     ensures keeps { OnOk result (kept engine.new ≡ kept engine.old) }
@@ -111,7 +112,7 @@ where
     requires runs { Runs P.Port runner.now.room (F.pre runner.now.run) (F.post runner.now.run) }
     requires plain { (out-Block block.now).handlers ≡ [] }
     ensures is { Answers P.Port
-        (spec.block (runner_for P.bodies runner.now.room) at block.now (world engine.old)) result
+        (spec.block (runner_for do_bodies runner.now.room) at block.now (world engine.old)) result
         engine.old engine.new port.old port.new }
     ensures keeps { OnOk result (kept engine.new ≡ kept engine.old) }
 {

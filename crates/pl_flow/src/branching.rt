@@ -4,6 +4,7 @@ ghost use Rattle.std.specs.Prelude.{◌≡◌, ◌≤◌, OnOk};
 ghost use Rattle.pl_engine.specs.Answers.{Answers};
 ghost use Rattle.pl_engine.specs.Engines.{kept, world};
 ghost use Rattle.pl_engine.specs.Runs.{Runs};
+ghost use Rattle.pl_engine.specs.Texts.{do_bodies};
 ghost use Rattle.pl_world.specs.Control as spec;
 ghost use Rattle.pl_world.specs.Running as running;
 ghost use Rattle.pl_world.specs.Statements.{runner_for};
@@ -27,7 +28,7 @@ where
     requires fits { P.fits (world engine.old).last port.old }
     requires runs { Runs P.Port runner.now.room (F.pre runner.now.run) (F.post runner.now.run) }
     ensures is { Answers P.Port
-        (running.all (runner_for P.bodies runner.now.room) (spec.else_of otherwise.now)
+        (running.all (runner_for do_bodies runner.now.room) (spec.else_of otherwise.now)
         (world engine.old)) result
         engine.old engine.new port.old port.new }
     ensures keeps { OnOk result (kept engine.new ≡ kept engine.old) }
@@ -53,7 +54,7 @@ where
     requires fits { P.fits (world engine.old).last port.old }
     requires runs { Runs P.Port runner.now.room (F.pre runner.now.run) (F.post runner.now.run) }
     ensures is { Answers P.Port
-        (spec.branches (runner_for P.bodies runner.now.room) at branches.now or_else.now
+        (spec.branches (runner_for do_bodies runner.now.room) at branches.now or_else.now
         (world engine.old)) result
         engine.old engine.new port.old port.new }
     ensures keeps { OnOk result (kept engine.new ≡ kept engine.old) }

@@ -5,6 +5,7 @@ ghost use Rattle.pl_engine.specs.Answers.{Answers};
 ghost use Rattle.pl_engine.specs.Engines.{kept, world};
 ghost use Rattle.pl_engine.specs.Runs.{Runs};
 ghost use Rattle.pl_engine.specs.Asks.{truth};
+ghost use Rattle.pl_engine.specs.Texts.{do_bodies};
 ghost use Rattle.pl_world.specs.Control as spec;
 ghost use Rattle.pl_world.specs.Statements.{runner_for};
 
@@ -15,8 +16,8 @@ use pl_engine::{Ask, Engine, Port, Runner, Spot, Stop, Task, all, ask};
 use pl_tree::Expr;
 use pl_world::Outcome;
 
-// The statements of ELSE, which there has to be.
-fn not_found<P: Port, F>(
+/// CASE that finds no arm: the statements of ELSE. 20000 where there is none.
+pub fn not_found<P: Port, F>(
     runner: &Runner<F>,
     engine: &mut Engine,
     port: &mut P,
@@ -29,7 +30,7 @@ where
     requires fits { P.fits (world engine.old).last port.old }
     requires runs { Runs P.Port runner.now.room (F.pre runner.now.run) (F.post runner.now.run) }
     ensures is { Answers P.Port
-        (spec.not_found (runner_for P.bodies runner.now.room) at otherwise.now
+        (spec.not_found (runner_for do_bodies runner.now.room) at otherwise.now
         (world engine.old)) result
         engine.old engine.new port.old port.new }
     ensures keeps { OnOk result (kept engine.new ≡ kept engine.old) }
@@ -54,7 +55,7 @@ where
     requires fits { P.fits (world engine.old).last port.old }
     requires runs { Runs P.Port runner.now.room (F.pre runner.now.run) (F.post runner.now.run) }
     ensures is { Answers P.Port
-        (spec.tested_one (runner_for P.bodies runner.now.room) at values.now
+        (spec.tested_one (runner_for do_bodies runner.now.room) at values.now
         (world engine.old) truth) result
         engine.old engine.new port.old port.new }
     ensures keeps { OnOk result (kept engine.new ≡ kept engine.old) }
@@ -81,7 +82,7 @@ where
     requires fits { P.fits (world engine.old).last port.old }
     requires runs { Runs P.Port runner.now.room (F.pre runner.now.run) (F.post runner.now.run) }
     ensures is { Answers P.Port
-        (spec.searched (runner_for P.bodies runner.now.room) at arms.now otherwise.now
+        (spec.searched (runner_for do_bodies runner.now.room) at arms.now otherwise.now
         (world engine.old)) result
         engine.old engine.new port.old port.new }
     ensures keeps { OnOk result (kept engine.new ≡ kept engine.old) }

@@ -12,9 +12,10 @@ mod numbers;
 mod ranges;
 mod turns;
 
+pub use answered::{is_true, truth_of};
 pub use blocks::block;
 pub use branching::branches;
-pub use cases::searched;
+pub use cases::{not_found, searched};
 pub use jumps::jump;
 pub use loops::{forever, while_true};
 pub use numbers::{Numbers, for_numbers};

@@ -4,6 +4,7 @@ ghost use Rattle.std.specs.Prelude.{◌≡◌, ◌≤◌, OnOk};
 ghost use Rattle.pl_engine.specs.Answers.{Answers};
 ghost use Rattle.pl_engine.specs.Engines.{kept, world};
 ghost use Rattle.pl_engine.specs.Runs.{Runs};
+ghost use Rattle.pl_engine.specs.Texts.{do_bodies};
 ghost use Rattle.pl_flow.specs.Answered as spec;
 ghost use Rattle.pl_world.specs.Control as control;
 ghost use Rattle.pl_world.specs.Statements.{runner_for};
@@ -31,7 +32,7 @@ where
     requires fits { P.fits (world engine.old).last port.old }
     requires runs { Runs P.Port runner.now.room (F.pre runner.now.run) (F.post runner.now.run) }
     ensures is { Answers P.Port
-        (control.loop (runner_for P.bodies runner.now.room) at label.now control.forever body.now
+        (control.loop (runner_for do_bodies runner.now.room) at label.now control.forever body.now
         (world engine.old)) result
         engine.old engine.new port.old port.new }
     ensures keeps { OnOk result (kept engine.new ≡ kept engine.old) }
@@ -62,8 +63,8 @@ where
     requires fits { P.fits (world engine.old).last port.old }
     requires runs { Runs P.Port runner.now.room (F.pre runner.now.run) (F.post runner.now.run) }
     ensures is { Answers P.Port
-        (spec.round (runner_for P.bodies runner.now.room) at label.now
-        (control.tested (runner_for P.bodies runner.now.room) at condition.now) body.now
+        (spec.round (runner_for do_bodies runner.now.room) at label.now
+        (control.tested (runner_for do_bodies runner.now.room) at condition.now) body.now
         (world engine.old)) result
         engine.old engine.new port.old port.new }
     ensures keeps { OnOk result (kept engine.new ≡ kept engine.old) }
@@ -90,7 +91,7 @@ where
     requires fits { P.fits (world engine.old).last port.old }
     requires runs { Runs P.Port runner.now.room (F.pre runner.now.run) (F.post runner.now.run) }
     ensures is { Answers P.Port
-        (spec.no_round at (control.tested (runner_for P.bodies runner.now.room) at condition.now)
+        (spec.no_round at (control.tested (runner_for do_bodies runner.now.room) at condition.now)
         (world engine.old)) result
         engine.old engine.new port.old port.new }
     ensures keeps { OnOk result (kept engine.new ≡ kept engine.old) }
@@ -119,8 +120,8 @@ where
     requires fits { P.fits (world engine.old).last port.old }
     requires runs { Runs P.Port runner.now.room (F.pre runner.now.run) (F.post runner.now.run) }
     ensures is { Answers P.Port
-        (control.loop (runner_for P.bodies runner.now.room) at label.now
-        (control.tested (runner_for P.bodies runner.now.room) at condition.now) body.now
+        (control.loop (runner_for do_bodies runner.now.room) at label.now
+        (control.tested (runner_for do_bodies runner.now.room) at condition.now) body.now
         (world engine.old)) result
         engine.old engine.new port.old port.new }
     ensures keeps { OnOk result (kept engine.new ≡ kept engine.old) }

@@ -4,6 +4,7 @@ ghost use Rattle.std.specs.Prelude.{◌≡◌, ◌≤◌, OnOk};
 ghost use Rattle.pl_engine.specs.Answers.{Answers};
 ghost use Rattle.pl_engine.specs.Engines.{Quiet, kept, world};
 ghost use Rattle.pl_engine.specs.Runs.{Runs};
+ghost use Rattle.pl_engine.specs.Texts.{do_bodies};
 ghost use Rattle.pl_flow.specs.Ranges.{AreIntegers, numbers_in};
 ghost use Rattle.pl_world.specs.Control as spec;
 ghost use Rattle.pl_world.specs.Statements.{runner_for};
@@ -49,8 +50,8 @@ where
     requires runs { Runs P.Port runner.now.room (F.pre runner.now.run) (F.post runner.now.run) }
     requires integers { AreIntegers (numbers_in range) }
     ensures is { Answers P.Port
-        (spec.each (runner_for P.bodies runner.now.room) at label.now to body.now (numbers_in range)
-        (world engine.old)) result
+        (spec.each (runner_for do_bodies runner.now.room) at label.now to body.now
+        (numbers_in range) (world engine.old)) result
         engine.old engine.new port.old port.new }
     ensures keeps { OnOk result (kept engine.new ≡ kept engine.old) }
 {
@@ -99,7 +100,7 @@ where
     requires runs { Runs P.Port runner.now.room (F.pre runner.now.run) (F.post runner.now.run) }
     requires integers { AreIntegers (numbers_in range) }
     ensures is { Answers P.Port
-        (spec.over_numbers (runner_for P.bodies runner.now.room) at numbers.now.label
+        (spec.over_numbers (runner_for do_bodies runner.now.room) at numbers.now.label
         numbers.now.variable numbers.now.body.now (numbers_in range) (world engine.old)) result
         engine.old engine.new port.old port.new }
     ensures keeps { OnOk result (kept engine.new ≡ kept engine.old) }
@@ -138,7 +139,7 @@ where
     requires runs { Runs P.Port runner.now.room (F.pre runner.now.run) (F.post runner.now.run) }
     ensures is { Answers P.Port
         (spec.positive by at (world engine.old) (λ by w.
-        spec.over_numbers (runner_for P.bodies runner.now.room) at
+        spec.over_numbers (runner_for do_bodies runner.now.room) at
         numbers.now.label numbers.now.variable numbers.now.body.now
         (spec.numbers numbers.now.is_reverse first last by) w)) result
         engine.old engine.new port.old port.new }
@@ -167,9 +168,9 @@ where
     requires fits { P.fits (world engine.old).last port.old }
     requires runs { Runs P.Port runner.now.room (F.pre runner.now.run) (F.post runner.now.run) }
     ensures is { Answers P.Port
-        (spec.stride (runner_for P.bodies runner.now.room) at numbers.now.step.now
+        (spec.stride (runner_for do_bodies runner.now.room) at numbers.now.step.now
         (world engine.old) (λ by w.
-        spec.over_numbers (runner_for P.bodies runner.now.room) at
+        spec.over_numbers (runner_for do_bodies runner.now.room) at
         numbers.now.label numbers.now.variable numbers.now.body.now
         (spec.numbers numbers.now.is_reverse first last by) w)) result
         engine.old engine.new port.old port.new }
@@ -200,9 +201,9 @@ where
     requires fits { P.fits (world engine.old).last port.old }
     requires runs { Runs P.Port runner.now.room (F.pre runner.now.run) (F.post runner.now.run) }
     ensures is { Answers P.Port
-        (spec.bound (runner_for P.bodies runner.now.room) at numbers.now.last.now
-        (world engine.old) (λ last w. spec.stride (runner_for P.bodies runner.now.room) at
-        numbers.now.step.now w (λ by w. spec.over_numbers (runner_for P.bodies runner.now.room) at
+        (spec.bound (runner_for do_bodies runner.now.room) at numbers.now.last.now
+        (world engine.old) (λ last w. spec.stride (runner_for do_bodies runner.now.room) at
+        numbers.now.step.now w (λ by w. spec.over_numbers (runner_for do_bodies runner.now.room) at
         numbers.now.label numbers.now.variable numbers.now.body.now
         (spec.numbers numbers.now.is_reverse first last by) w))) result
         engine.old engine.new port.old port.new }
@@ -229,7 +230,7 @@ where
     requires fits { P.fits (world engine.old).last port.old }
     requires runs { Runs P.Port runner.now.room (F.pre runner.now.run) (F.post runner.now.run) }
     ensures is { Answers P.Port
-        (spec.for_numbers (runner_for P.bodies runner.now.room) at numbers.now.label
+        (spec.for_numbers (runner_for do_bodies runner.now.room) at numbers.now.label
         numbers.now.variable numbers.now.is_reverse numbers.now.first.now numbers.now.last.now
         numbers.now.step.now numbers.now.body.now (world engine.old)) result
         engine.old engine.new port.old port.new }

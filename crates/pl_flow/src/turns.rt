@@ -4,6 +4,7 @@ ghost use Rattle.std.specs.Prelude.{◌≡◌, ◌≤◌, OnOk};
 ghost use Rattle.pl_engine.specs.Answers.{Answers};
 ghost use Rattle.pl_engine.specs.Engines.{kept, world};
 ghost use Rattle.pl_engine.specs.Runs.{Runs};
+ghost use Rattle.pl_engine.specs.Texts.{do_bodies};
 ghost use Rattle.pl_flow.specs.Answered as spec;
 ghost use Rattle.pl_world.specs.Control as control;
 ghost use Rattle.pl_world.specs.Statements.{runner_for};
@@ -70,7 +71,7 @@ where
     requires fits { P.fits (world engine.old).last port.old }
     requires runs { Runs P.Port runner.now.room (F.pre runner.now.run) (F.post runner.now.run) }
     ensures is { Answers P.Port
-        (control.turn (runner_for P.bodies runner.now.room) at label.now body.now
+        (control.turn (runner_for do_bodies runner.now.room) at label.now body.now
         (world engine.old) spec.goes) result
         engine.old engine.new port.old port.new }
     ensures keeps { OnOk result (kept engine.new ≡ kept engine.old) }

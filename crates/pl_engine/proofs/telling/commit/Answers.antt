@@ -1,8 +1,10 @@
 use Rattle.pl_engine.proofs.Joins.{lawful}
-use Rattle.pl_engine.proofs.Rises.{rises}
-use Rattle.pl_engine.proofs.Tells.{committed_cut}
+use Rattle.pl_engine.proofs.Rises.{rises, wanted}
+use Rattle.pl_engine.proofs.Tells.{committed_cut, untaken}
+use Rattle.pl_engine.specs.Engines.{world}
+use Rattle.pl_world.specs.Transactions.{committed}
 use Rattle.pl_engine.proofs.telling.commit.Goals as goal
-use Rattle.pl_engine.specs.declared.stop.Stop.TheVariants.{Disk, Memory}
+use Rattle.pl_engine.specs.declared.stop.Stop.TheVariants.{Disk}
 
 pub returns-in-Err-Device-clause-is : goal.returns-in-Err-Device-clause-is
 returns-in-Err-Device-clause-is g c =
@@ -11,4 +13,4 @@ returns-in-Err-Device-clause-is g c =
 
 pub returns-in-Err-Memory-clause-is : goal.returns-in-Err-Memory-clause-is
 returns-in-Err-Memory-clause-is g c =
-    committed_cut (lawful g.P.Port g.met.P.Port.none g.met.P.Port.joins g.met.P.Port.rises) c.args.engine.now Memory c.in-Err-Memory.ensures.err tt
+    untaken (committed (world c.args.engine.now)) c.args.engine.now (c.in-Err-Memory.ensures.memory (wanted c.in-Err-Memory.field-0-is))

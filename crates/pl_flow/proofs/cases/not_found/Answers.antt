@@ -2,6 +2,7 @@ use Rattle.std.proofs.Common.{Option, ap}
 use Rattle.pl_bodies.specs.declared.statement.Otherwise.{Otherwise}
 use Rattle.pl_engine.proofs.Joins.{acted, becomes, lawful, start}
 use Rattle.pl_engine.specs.Engines.{world}
+use Rattle.pl_engine.specs.Texts.{do_bodies}
 use Rattle.pl_flow.proofs.cases.not_found.Goals as goal
 use Rattle.pl_world.specs.Control.{not_found}
 use Rattle.pl_world.specs.Statements.{runner_for}
@@ -9,7 +10,7 @@ use Rattle.pl_world.specs.Statements.{runner_for}
 pub returns-in-None-clause-is : goal.returns-in-None-clause-is
 returns-in-None-clause-is g c =
     let law = lawful g.P.Port g.met.P.Port.none g.met.P.Port.joins g.met.P.Port.rises in
-    let r = runner_for g.P.Port.bodies c.args.runner.now.room in
+    let r = runner_for do_bodies c.args.runner.now.room in
     let w = world c.args.engine.now in
     acted law (becomes law (start law (not_found r c.args.at c.args.otherwise.now w) c.args.engine.now c.args.port.now c.requires.fits)
     (ap (λ (o : Option Otherwise). not_found r c.args.at o w) c.in-None.is)) c.raise.ensures

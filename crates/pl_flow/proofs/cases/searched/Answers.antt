@@ -1,5 +1,6 @@
 use Rattle.pl_engine.proofs.Joins.{lawful, refused, answered, becomes}
 use Rattle.pl_engine.specs.Engines.{world}
+use Rattle.pl_engine.specs.Texts.{do_bodies}
 use Rattle.pl_flow.proofs.Asked.{asked_off, asked_on, asked_stopped}
 use Rattle.pl_flow.proofs.Lists.{arm_here, arm_next, arms_end}
 use Rattle.pl_flow.proofs.cases.searched.Goals as goal
@@ -12,28 +13,28 @@ use Rattle.std.proofs.Common.{◌∙◌, ap, sym, rules, true, false, List}
 pub returns-in_err-answer-clause-is : goal.returns-in_err-answer-clause-is
 returns-in_err-answer-clause-is g c =
     let law = lawful g.P.Port g.met.P.Port.none g.met.P.Port.joins g.met.P.Port.rises in
-    let r = runner_for g.P.Port.bodies c.args.runner.now.room in
+    let r = runner_for do_bodies c.args.runner.now.room in
     let here = arm_here r c.args.at c.args.otherwise.now law c.args.arms.now _ c.loop-arm.invariant.way _ c.as_slice.result.now c.loop-arm-test.true c.arm-item.is c.as_slice.ensures in
     refused c.test_one.new.engine _ c.in_err-answer.field-0.0 c.from_residual.ensures (asked_stopped law truth_of (arm_next r c.args.at c.args.otherwise.now _ _) here c.in_err-answer.ensures.is)
 
 pub returns-in-Ok-true-clause-is : goal.returns-in-Ok-true-clause-is
 returns-in-Ok-true-clause-is g c =
     let law = lawful g.P.Port g.met.P.Port.none g.met.P.Port.joins g.met.P.Port.rises in
-    let r = runner_for g.P.Port.bodies c.args.runner.now.room in
+    let r = runner_for do_bodies c.args.runner.now.room in
     let here = arm_here r c.args.at c.args.otherwise.now law c.args.arms.now _ c.loop-arm.invariant.way _ c.as_slice.result.now c.loop-arm-test.true c.arm-item.is c.as_slice.ensures in
     answered law _ _ _ (becomes law (asked_on law truth_of (arm_next r c.args.at c.args.otherwise.now _ _) here c.in_ok-answer.answer true c.in_ok-answer.ensures.is (search rules)) (ap (λ (ss : List Statement). all r ss (world c.test_one.new.engine)) (sym c.as_slice-in-Ok-true.ensures))) c.all.ensures.is
 
 pub returns-in-Err-clause-is : goal.returns-in-Err-clause-is
 returns-in-Err-clause-is g c =
     let law = lawful g.P.Port g.met.P.Port.none g.met.P.Port.joins g.met.P.Port.rises in
-    let r = runner_for g.P.Port.bodies c.args.runner.now.room in
+    let r = runner_for do_bodies c.args.runner.now.room in
     let here = arm_here r c.args.at c.args.otherwise.now law c.args.arms.now _ c.loop-arm.invariant.way _ c.as_slice.result.now c.loop-arm-test.true c.arm-item.is c.as_slice.ensures in
     asked_off law truth_of (arm_next r c.args.at c.args.otherwise.now _ _) here c.in_ok-answer.answer _ c.in_ok-answer.ensures.is (search rules)
 
 pub loop-arm-preserved : goal.loop-arm-preserved
 loop-arm-preserved g c =
     let law = lawful g.P.Port g.met.P.Port.none g.met.P.Port.joins g.met.P.Port.rises in
-    let r = runner_for g.P.Port.bodies c.args.runner.now.room in
+    let r = runner_for do_bodies c.args.runner.now.room in
     let here = arm_here r c.args.at c.args.otherwise.now law c.args.arms.now _ c.loop-arm.invariant.way _ c.as_slice.result.now c.loop-arm-test.true c.arm-item.is c.as_slice.ensures in
     record {
       way = asked_on law truth_of (arm_next r c.args.at c.args.otherwise.now _ _) here c.in_ok-answer.answer false c.in_ok-answer.ensures.is (search rules);
@@ -43,5 +44,5 @@ loop-arm-preserved g c =
 pub returns-clause-is : goal.returns-clause-is
 returns-clause-is g c =
     let law = lawful g.P.Port g.met.P.Port.none g.met.P.Port.joins g.met.P.Port.rises in
-    let r = runner_for g.P.Port.bodies c.args.runner.now.room in
+    let r = runner_for do_bodies c.args.runner.now.room in
     answered law _ _ _ (arms_end r c.args.at c.args.otherwise.now law c.args.arms.now _ c.loop-arm.invariant.way c.loop-arm-test.false) c.not_found.ensures.is

@@ -1,5 +1,6 @@
 use Rattle.pl_engine.proofs.Joins.{lawful, refused, answered, becomes, step}
 use Rattle.pl_engine.specs.Engines.{world}
+use Rattle.pl_engine.specs.Texts.{do_bodies}
 use Rattle.pl_flow.proofs.Asked.{asked_off, asked_on, asked_stopped}
 use Rattle.pl_flow.proofs.Opened.{by_next, over_next, stride_here, stride_one}
 use Rattle.pl_flow.proofs.numbers.between.Goals as goal
@@ -14,7 +15,7 @@ use Rattle.std.proofs.Common.{◌∙◌, ap, sym, rules, pos, ℤ, of_z, to_z}
 pub returns-in_default-clause-is : goal.returns-in_default-clause-is
 returns-in_default-clause-is g c =
     let law = lawful g.P.Port g.met.P.Port.none g.met.P.Port.joins g.met.P.Port.rises in
-    let r = runner_for g.P.Port.bodies c.args.runner.now.room in
+    let r = runner_for do_bodies c.args.runner.now.room in
     let f = to_z-of_z w32 c.args.first c.ranges.first in
     let l = to_z-of_z w32 c.args.last c.ranges.last in
     let way = stride_one law r c.args.at c.args.engine.now c.args.port.now c.requires.fits c.args.numbers.now.step.now (over_next r c.args.at c.args.numbers.now.label c.args.numbers.now.variable c.args.numbers.now.is_reverse c.args.numbers.now.body.now c.args.first c.args.last) (search rules) in
@@ -24,14 +25,14 @@ returns-in_default-clause-is g c =
 pub returns-in_err-answer-clause-is : goal.returns-in_err-answer-clause-is
 returns-in_err-answer-clause-is g c =
     let law = lawful g.P.Port g.met.P.Port.none g.met.P.Port.joins g.met.P.Port.rises in
-    let r = runner_for g.P.Port.bodies c.args.runner.now.room in
+    let r = runner_for do_bodies c.args.runner.now.room in
     let here = stride_here law r c.args.at c.args.engine.now c.args.port.now c.requires.fits c.args.numbers.now.step.now c.get.result.now (over_next r c.args.at c.args.numbers.now.label c.args.numbers.now.variable c.args.numbers.now.is_reverse c.args.numbers.now.body.now c.args.first c.args.last) (search rules) in
     refused c.ask.new.engine _ c.in_err-answer.field-0.0 c.from_residual.ensures (asked_stopped law number_of (by_next r c.args.at c.args.numbers.now.label c.args.numbers.now.variable c.args.numbers.now.is_reverse c.args.numbers.now.body.now c.args.first c.args.last) here c.in_err-answer.ensures.is)
 
 pub returns-in-Ok-clause-is : goal.returns-in-Ok-clause-is
 returns-in-Ok-clause-is g c =
     let law = lawful g.P.Port g.met.P.Port.none g.met.P.Port.joins g.met.P.Port.rises in
-    let r = runner_for g.P.Port.bodies c.args.runner.now.room in
+    let r = runner_for do_bodies c.args.runner.now.room in
     let here = stride_here law r c.args.at c.args.engine.now c.args.port.now c.requires.fits c.args.numbers.now.step.now c.get.result.now (over_next r c.args.at c.args.numbers.now.label c.args.numbers.now.variable c.args.numbers.now.is_reverse c.args.numbers.now.body.now c.args.first c.args.last) (search rules) in
     let f = to_z-of_z w32 c.args.first c.ranges.first in
     let l = to_z-of_z w32 c.args.last c.ranges.last in
@@ -44,6 +45,6 @@ returns-in-Ok-clause-is g c =
 pub returns-in-Err-clause-is : goal.returns-in-Err-clause-is
 returns-in-Err-clause-is g c =
     let law = lawful g.P.Port g.met.P.Port.none g.met.P.Port.joins g.met.P.Port.rises in
-    let r = runner_for g.P.Port.bodies c.args.runner.now.room in
+    let r = runner_for do_bodies c.args.runner.now.room in
     let here = stride_here law r c.args.at c.args.engine.now c.args.port.now c.requires.fits c.args.numbers.now.step.now c.get.result.now (over_next r c.args.at c.args.numbers.now.label c.args.numbers.now.variable c.args.numbers.now.is_reverse c.args.numbers.now.body.now c.args.first c.args.last) (search rules) in
     asked_off law number_of (by_next r c.args.at c.args.numbers.now.label c.args.numbers.now.variable c.args.numbers.now.is_reverse c.args.numbers.now.body.now c.args.first c.args.last) here c.in_ok-answer.answer _ c.in_ok-answer.ensures.is (search rules)

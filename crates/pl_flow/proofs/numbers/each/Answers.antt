@@ -1,5 +1,6 @@
 use Rattle.pl_engine.proofs.Joins.{lawful, refused, start}
 use Rattle.pl_engine.specs.Engines.{world}
+use Rattle.pl_engine.specs.Texts.{do_bodies}
 use Rattle.pl_flow.proofs.Asked.{asked_off, asked_on, asked_stopped}
 use Rattle.pl_flow.proofs.Repeats.{each_end, each_here, each_later, later}
 use Rattle.pl_flow.proofs.numbers.each.Goals as goal
@@ -17,7 +18,7 @@ use Rattle.std.proofs.Common.{◌∙◌, ap, refl, rules, arith, ℤ}
 pub loop-number-init : goal.loop-number-init
 loop-number-init g c =
     let law = lawful g.P.Port g.met.P.Port.none g.met.P.Port.joins g.met.P.Port.rises in
-    let r = runner_for g.P.Port.bodies c.args.runner.now.room in
+    let r = runner_for do_bodies c.args.runner.now.room in
     record {
       way = start law (each r c.args.at c.args.label.now c.args.to c.args.body.now (numbers_in c.args.range) (world c.args.engine.now)) c.args.engine.now c.args.port.now c.requires.fits;
       integers = c.requires.integers;
@@ -27,7 +28,7 @@ loop-number-init g c =
 pub returns-in_err-end-clause-is : goal.returns-in_err-end-clause-is
 returns-in_err-end-clause-is g c =
     let law = lawful g.P.Port g.met.P.Port.none g.met.P.Port.joins g.met.P.Port.rises in
-    let r = runner_for g.P.Port.bodies c.args.runner.now.room in
+    let r = runner_for do_bodies c.args.runner.now.room in
     let fits : FitsSigned w32 c.in-Some.number = search rules in
     let set = c.set.ensures.is ∙ ap (λ (z : ℤ). with_value c.args.to (Int z) (world c.loop-number.engine)) (to_z-of_z w32 c.in-Some.number fits) in
     let here = each_here r c.args.at c.args.label.now c.args.to c.args.body.now law _ c.loop-number.invariant.way c.set.new.self c.in-Some.number (numbers_in c.next.new.self) c.in-Some.ensures.gives set in
@@ -36,7 +37,7 @@ returns-in_err-end-clause-is g c =
 pub returns-in-Err-clause-is : goal.returns-in-Err-clause-is
 returns-in-Err-clause-is g c =
     let law = lawful g.P.Port g.met.P.Port.none g.met.P.Port.joins g.met.P.Port.rises in
-    let r = runner_for g.P.Port.bodies c.args.runner.now.room in
+    let r = runner_for do_bodies c.args.runner.now.room in
     let fits : FitsSigned w32 c.in-Some.number = search rules in
     let set = c.set.ensures.is ∙ ap (λ (z : ℤ). with_value c.args.to (Int z) (world c.loop-number.engine)) (to_z-of_z w32 c.in-Some.number fits) in
     let here = each_here r c.args.at c.args.label.now c.args.to c.args.body.now law _ c.loop-number.invariant.way c.set.new.self c.in-Some.number (numbers_in c.next.new.self) c.in-Some.ensures.gives set in
@@ -45,7 +46,7 @@ returns-in-Err-clause-is g c =
 pub loop-number-preserved : goal.loop-number-preserved
 loop-number-preserved g c =
     let law = lawful g.P.Port g.met.P.Port.none g.met.P.Port.joins g.met.P.Port.rises in
-    let r = runner_for g.P.Port.bodies c.args.runner.now.room in
+    let r = runner_for do_bodies c.args.runner.now.room in
     let fits : FitsSigned w32 c.in-Some.number = search rules in
     let set = c.set.ensures.is ∙ ap (λ (z : ℤ). with_value c.args.to (Int z) (world c.loop-number.engine)) (to_z-of_z w32 c.in-Some.number fits) in
     let here = each_here r c.args.at c.args.label.now c.args.to c.args.body.now law _ c.loop-number.invariant.way c.set.new.self c.in-Some.number (numbers_in c.next.new.self) c.in-Some.ensures.gives set in
@@ -58,13 +59,13 @@ loop-number-preserved g c =
 pub returns-clause-is : goal.returns-clause-is
 returns-clause-is g c =
     let law = lawful g.P.Port g.met.P.Port.none g.met.P.Port.joins g.met.P.Port.rises in
-    let r = runner_for g.P.Port.bodies c.args.runner.now.room in
+    let r = runner_for do_bodies c.args.runner.now.room in
     each_end r c.args.at c.args.label.now c.args.to c.args.body.now law _ c.loop-number.invariant.way (search rules)
 
 pub turn-requires-clause-room : goal.turn-requires-clause-room
 turn-requires-clause-room g c =
     let law = lawful g.P.Port g.met.P.Port.none g.met.P.Port.joins g.met.P.Port.rises in
-    let r = runner_for g.P.Port.bodies c.args.runner.now.room in
+    let r = runner_for do_bodies c.args.runner.now.room in
     let fits : FitsSigned w32 c.in-Some.number = search rules in
     let set = c.set.ensures.is ∙ ap (λ (z : ℤ). with_value c.args.to (Int z) (world c.loop-number.engine)) (to_z-of_z w32 c.in-Some.number fits) in
     let here = each_here r c.args.at c.args.label.now c.args.to c.args.body.now law _ c.loop-number.invariant.way c.set.new.self c.in-Some.number (numbers_in c.next.new.self) c.in-Some.ensures.gives set in
@@ -74,7 +75,7 @@ turn-requires-clause-room g c =
 pub turn-requires-clause-fits : goal.turn-requires-clause-fits
 turn-requires-clause-fits g c =
     let law = lawful g.P.Port g.met.P.Port.none g.met.P.Port.joins g.met.P.Port.rises in
-    let r = runner_for g.P.Port.bodies c.args.runner.now.room in
+    let r = runner_for do_bodies c.args.runner.now.room in
     let fits : FitsSigned w32 c.in-Some.number = search rules in
     let set = c.set.ensures.is ∙ ap (λ (z : ℤ). with_value c.args.to (Int z) (world c.loop-number.engine)) (to_z-of_z w32 c.in-Some.number fits) in
     let here = each_here r c.args.at c.args.label.now c.args.to c.args.body.now law _ c.loop-number.invariant.way c.set.new.self c.in-Some.number (numbers_in c.next.new.self) c.in-Some.ensures.gives set in

@@ -1,5 +1,6 @@
 use Rattle.pl_engine.proofs.Joins.{lawful, answered, acted, becomes}
 use Rattle.pl_engine.specs.Engines.{world}
+use Rattle.pl_engine.specs.Texts.{do_bodies}
 use Rattle.pl_flow.proofs.Counted.{are_integers_of, as_integers}
 use Rattle.pl_flow.proofs.Opened.{over_next, positive_here, positive_not}
 use Rattle.pl_flow.proofs.numbers.stepping.Goals as goal
@@ -13,13 +14,13 @@ use Rattle.std.proofs.Common.{◌≡◌, ◌∙◌, ap, sym, rules, ℤ, List, o
 pub returns-then-by-le0-clause-is : goal.returns-then-by-le0-clause-is
 returns-then-by-le0-clause-is g c =
     let law = lawful g.P.Port g.met.P.Port.none g.met.P.Port.joins g.met.P.Port.rises in
-    let r = runner_for g.P.Port.bodies c.args.runner.now.room in
+    let r = runner_for do_bodies c.args.runner.now.room in
     acted law (positive_not law r c.args.at c.args.engine.now c.args.port.now c.requires.fits c.args.by (over_next r c.args.at c.args.numbers.now.label c.args.numbers.now.variable c.args.numbers.now.is_reverse c.args.numbers.now.body.now c.args.first c.args.last) (search rules)) c.raise.ensures
 
 pub returns-clause-is : goal.returns-clause-is
 returns-clause-is g c =
     let law = lawful g.P.Port g.met.P.Port.none g.met.P.Port.joins g.met.P.Port.rises in
-    let r = runner_for g.P.Port.bodies c.args.runner.now.room in
+    let r = runner_for do_bodies c.args.runner.now.room in
     let way = positive_here law r c.args.at c.args.engine.now c.args.port.now c.requires.fits c.args.by (over_next r c.args.at c.args.numbers.now.label c.args.numbers.now.variable c.args.numbers.now.is_reverse c.args.numbers.now.body.now c.args.first c.args.last) (search rules) in
     let f = to_z-of_z w32 c.args.first c.ranges.first in
     let l = to_z-of_z w32 c.args.last c.ranges.last in
