@@ -1,0 +1,4 @@
+pub mod Acts
+pub mod Aimed
+pub mod Tried
+pub mod Valued

@@ -1,0 +1,28 @@
+//! What statements make of their expressions: whether a condition is true, the bound of a FOR, a
+//! variable that is declared or given a value, what RETURN gives, and CASE with an operand. An
+//! expression is resolved when it is reached.
+#![tactic(auto)]
+
+mod answering;
+mod answers;
+mod assigning;
+mod cases;
+mod conditions;
+mod converting;
+mod declaring;
+mod placing;
+mod resolving;
+mod values;
+mod variable;
+
+pub use answering::answer;
+pub use answers::value_of;
+pub use assigning::assign;
+pub use cases::case_operand;
+pub use conditions::{bound, test};
+pub use converting::raise_in_run;
+pub use declaring::declare;
+pub use placing::{diagnose, put_all};
+pub use resolving::{aim, aim_all};
+pub use values::{returns, value};
+pub use variable::Variable;

@@ -1,0 +1,5 @@
+mod Entered
+mod Keeping
+mod Named
+mod Overs
+mod Telling

@@ -1,0 +1,56 @@
+-- What is read over what is kept of a state was read over the whole of it.
+use Rattle.std.proofs.Common.{◌≡◌, ℕ, List, [], ◌∷◌, Result, subst}
+use Rattle.pl_base.specs.declared.value.Value.{Value}
+use Rattle.pl_calling.proofs.Keeping.{calls_agree}
+use Rattle.pl_calling.specs.Standing.{Standing, calls_kept, fresh, keep}
+use Rattle.pl_engine.specs.Texts.{do_bodies}
+use Rattle.pl_journal.specs.Rows.{tables_of}
+use Rattle.pl_meaning.specs.Selection.{last_of}
+use Rattle.pl_natural.proofs.Rows.{rows_agree}
+use Rattle.pl_natural.proofs.Told.{told}
+use Rattle.pl_natural.proofs.Values.{value_agrees}
+use Rattle.pl_natural.specs.Kept.{CallsAgree, ReadsKept, SubsAgree}
+use Rattle.pl_query.specs.Query.{rows}
+use Rattle.pl_query.specs.Sources.{Tables}
+use Rattle.pl_resolved.specs.declared.query.RQuery.{RQuery}
+use Rattle.pl_scope.specs.declared.resolve.ResolvedExpr.{ResolvedExpr}
+use Rattle.pl_value.specs.Answers.{Reads}
+use Rattle.pl_value.specs.Frames.{Row}
+use Rattle.pl_value.specs.Meaning.{Sub, value}
+use Rattle.pl_value.specs.Reading.{Reading}
+use Rattle.pl_value.specs.declared.operand.Unsettled.{Unsettled}
+use Rattle.pl_world.specs.Calls.{calls}
+use Rattle.pl_world.specs.Errors.{Spot}
+use Rattle.pl_world.specs.Expressions.{begun, inner, rows_over, value_over}
+use Rattle.pl_world.specs.Statements.{runner_for}
+use Rattle.pl_world.specs.Variables.{row_of}
+use Rattle.pl_world.specs.World.{World}
+
+module _ (at : Spot) (room : ℕ) where
+  agree : CallsAgree (keep at room) (calls (runner_for do_bodies room) at) calls_kept
+  agree name values x = calls_agree at room name values x
+
+  inside_agree : (queries : List RQuery) (tables : Tables) → SubsAgree (keep at room) (rows (calls (runner_for do_bodies room) at) queries tables) (rows calls_kept queries tables)
+  inside_agree queries tables = rows_agree (keep at room) (calls (runner_for do_bodies room) at) calls_kept agree queries tables
+
+  module _ (w : World) (row : Row) (sub : Sub Standing) (s : Standing) (begins : s ≡ fresh at room w) where
+    pub value_told : (e : ResolvedExpr) (answer : Result Value Unsettled) (left : Standing) → sub ≡ rows calls_kept e.queries (tables_of w.database.tables) → Reads (value calls_kept sub e.typed.tree (row ∷ []) s) answer left
+        → ReadsKept (keep at room) (value_over (runner_for do_bodies room) at e row w) answer left
+    value_told e answer left same reads =
+        let there : Reads (value calls_kept (rows calls_kept e.queries (tables_of w.database.tables)) e.typed.tree (row ∷ []) (fresh at room w)) answer left =
+        subst (λ (t : Standing). Reads (value calls_kept (rows calls_kept e.queries (tables_of w.database.tables)) e.typed.tree (row ∷ []) t) answer left) begins
+        (subst (λ (f : Sub Standing). Reads (value calls_kept f e.typed.tree (row ∷ []) s) answer left) same reads) in
+        told (keep at room) (value_over (runner_for do_bodies room) at e row w) answer left
+        (subst (λ (r : Reading Standing Value). Reads r answer left)
+        (value_agrees (keep at room) (calls (runner_for do_bodies room) at) calls_kept agree (inner (runner_for do_bodies room) at e.queries w) (rows calls_kept e.queries (tables_of w.database.tables))
+        (inside_agree e.queries (tables_of w.database.tables)) e.typed.tree (row ∷ []) (begun w)) there)
+
+    pub rows_told : (queries : List RQuery) (answer : Result (List Row) Unsettled) (left : Standing) → row ≡ row_of w.frame → sub ≡ rows calls_kept queries (tables_of w.database.tables) → Reads (sub (last_of queries) (row ∷ []) s) answer left
+        → ReadsKept (keep at room) (rows_over (runner_for do_bodies room) at queries w) answer left
+    rows_told queries answer left is same reads =
+        let there : Reads (rows calls_kept queries (tables_of w.database.tables) (last_of queries) (row_of w.frame ∷ []) (fresh at room w)) answer left =
+        subst (λ (r : Row). Reads (rows calls_kept queries (tables_of w.database.tables) (last_of queries) (r ∷ []) (fresh at room w)) answer left) is
+        (subst (λ (t : Standing). Reads (rows calls_kept queries (tables_of w.database.tables) (last_of queries) (row ∷ []) t) answer left) begins
+        (subst (λ (f : Sub Standing). Reads (f (last_of queries) (row ∷ []) s) answer left) same reads)) in
+        told (keep at room) (rows_over (runner_for do_bodies room) at queries w) answer left
+        (subst (λ (r : Reading Standing (List Row)). Reads r answer left) (inside_agree queries (tables_of w.database.tables) (last_of queries) (row_of w.frame ∷ []) (begun w)) there)

@@ -1,0 +1,18 @@
+//! Expressions and queries within statements, and the calls of routines in them.
+#![tactic(auto)]
+
+mod bodies;
+mod callee;
+mod calling;
+mod converting;
+mod copies;
+mod ending;
+mod evaluating;
+mod lending;
+mod querying;
+mod start;
+mod trial;
+
+pub use converting::{as_type, convert, run_state};
+pub use evaluating::{evaluate, evaluate_beside};
+pub use querying::query;
