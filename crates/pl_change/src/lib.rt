@@ -13,6 +13,3 @@ mod writing;
 pub use at_start::{Copied, Copies, copy_row, copy_tables};
 pub use command::Command;
 pub use commands::change;
-
-#[cfg(test)]
-mod tests;

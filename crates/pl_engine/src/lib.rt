@@ -28,6 +28,3 @@ pub use runner::{Runner, Task, all, ask};
 pub use spot::Spot;
 pub use stop::Stop;
 pub use telling::{commit, say};
-
-#[cfg(test)]
-mod tests;

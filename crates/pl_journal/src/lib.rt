@@ -12,6 +12,3 @@ mod writing;
 
 pub use journal::Journal;
 pub use whole::whole_leads_to_itself;
-
-#[cfg(test)]
-mod tests;

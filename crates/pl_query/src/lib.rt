@@ -13,10 +13,8 @@ mod store;
 mod tables;
 mod within;
 
+pub use draws::lend_rows;
 pub use rows::Rows;
 pub use store::{Lender, Store};
 pub use tables::Tables;
 pub use within::{Queries, evaluate, run};
-
-#[cfg(test)]
-mod tests;

@@ -4,6 +4,3 @@
 mod rules;
 
 pub use rules::{RuleFail, check_row, holding_rows_break_nothing};
-
-#[cfg(test)]
-mod tests;

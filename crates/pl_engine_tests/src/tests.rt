@@ -2,8 +2,8 @@
 
 ghost use Rattle.std.specs.Prelude.{◌≡◌};
 
-use crate::{Engine, Recorder, Spot, Stop, commit, say};
 use pl_base::{Held, Message, Origin, State, Txt};
+use pl_engine::{Engine, Recorder, Spot, Stop, commit, say};
 use pl_journal::Journal;
 use pl_reading::read_definition;
 use pl_world::Outcome;

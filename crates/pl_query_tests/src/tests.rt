@@ -1,8 +1,7 @@
 //! Queries over one table, worked out by hand.
 
-use crate::draws::lend_rows;
-use crate::{Tables, run};
 use pl_base::{Boxed, Cells, Comparison, Held, List, Name, Operator, Ty, Value};
+use pl_query::{Tables, lend_rows, run};
 use pl_resolved::{
     Aggregate, Head, RAggregate, RExpr, RGroups, RJoin, RKey, RPair, RQuery, RSource,
 };

@@ -1,9 +1,9 @@
 //! Rows of two columns `a` and `b`, and the rule that each breaks first.
 
-use crate::{RuleFail, check_row};
 use pl_base::{Boxed, Cells, Comparison, List, Memory, Name, Operator, State, Txt, Ty, Value};
 use pl_catalog::{Column, Rule, RuleKind, TableDef};
 use pl_resolved::{RExpr, RPair};
+use pl_rules::{RuleFail, check_row};
 use std::alloc::Global;
 
 fn word(text: &str) -> Result<Name, Memory> {

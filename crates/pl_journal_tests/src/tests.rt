@@ -3,9 +3,9 @@
 ghost use Rattle.std.specs.Prelude.{◌≡◌, IsSome, true};
 ghost use Rattle.pl_tables.specs.Named.{row_named};
 
-use crate::Journal;
 use pl_base::{Cells, Held, List, Memory, Name, State, Txt, Value};
 use pl_codec::decode_all;
+use pl_journal::Journal;
 use pl_reading::read_definition;
 use pl_value::Unsettled;
 use std::alloc::{AllocError, Global};

@@ -1,0 +1,5 @@
+//! Tests of changes of tables.
+#![tactic(auto)]
+
+#[cfg(test)]
+mod tests;

@@ -1,0 +1,5 @@
+//! Tests of the journal of a database.
+#![tactic(auto)]
+
+#[cfg(test)]
+mod tests;

@@ -1,0 +1,5 @@
+//! Tests of products of rows.
+#![tactic(auto)]
+
+#[cfg(test)]
+mod tests;

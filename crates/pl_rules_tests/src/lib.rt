@@ -1,0 +1,5 @@
+//! Tests of rules of a row.
+#![tactic(auto)]
+
+#[cfg(test)]
+mod tests;
