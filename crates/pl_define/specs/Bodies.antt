@@ -1,7 +1,7 @@
 -- The body that a text is, computed. What has to be believed is `Answers` of pl_routine: the law
 -- `one_body_of_a_text` says that this is what it gives.
 use Rattle.std.specs.Prelude.{◌≡◌, ◌-◌, ◌^◌, ◌&&◌, Bool, if◌then◌else◌, nat_lt}
-use Rattle.std.specs.Prelude.{List, length, Option, Some, None, Ok, Err}
+use Rattle.std.specs.Prelude.{List, [], length, Option, Some, None, Ok, Err}
 use Rattle.pl_base.specs.States.{INVALID_FUNCTION_DEFINITION, PROGRAM_LIMIT_EXCEEDED}
 use Rattle.pl_base.specs.States.{STATEMENT_TOO_COMPLEX, SYNTAX_ERROR}
 use Rattle.pl_base.specs.declared.state.State.{State}
@@ -24,6 +24,7 @@ use Rattle.pl_reading.specs.Computed.{deep_from}
 use Rattle.pl_routine.specs.Reading.{Answers, state_of}
 use Rattle.pl_routine.specs.declared.reading.BodyFail.{BodyFail}
 use Rattle.pl_tree.specs.declared.command.NewRoutine.{NewRoutine}
+use Rattle.pl_tree.specs.declared.command.ResultType.TheVariants.{Absent}
 use Rattle.pl_tree.specs.declared.command.RoutineKind.{RoutineKind}
 use Rattle.pl_tree.specs.declared.command.RoutineKind.TheVariants.{Function, Procedure}
 use Rattle.pl_typing.specs.Resolved.{Resolved}
@@ -83,3 +84,9 @@ written_body (Some text) r = body_of_text text r
 
 abbrev pub body_of : NewRoutine → Resolved Body
 body_of r = written_body r.body (heading_of r)
+
+-- ---- a DO
+
+-- what its text is the body of: it has no name, no parameter and no result
+abbrev pub nameless : Routine
+nameless = record { name = None; kind = of.Do; params = []; result = Absent }

@@ -7,13 +7,13 @@ ghost use Rattle.pl_define.specs.Views.{fail_by};
 ghost use Rattle.pl_routine.specs.Reading.{state_of};
 ghost use Rattle.pl_typing.specs.Resolved.{Gives};
 
-use pl_base::{Held, State};
+use pl_base::{Held, State, Txt};
 use pl_bodies::Body;
 use pl_body_rules::{Heading, Kind};
 use pl_codec::is_text;
 use pl_lex::read_utf8;
 use pl_routine::{BodyFail, read_body};
-use pl_tree::{NewRoutine, RoutineKind};
+use pl_tree::{NewRoutine, ResultType, RoutineKind};
 use pl_typing::ScopeFail;
 use std::alloc::Global;
 
@@ -88,4 +88,21 @@ pub(crate) fn body_of(alloc: Global, new: &NewRoutine) -> Result<Held<Body>, Sco
         Some(text) => read(alloc, text.as_bytes(), &heading_of(new)),
         None => Err(ScopeFail::State(State::INVALID_FUNCTION_DEFINITION)),
     }
+}
+
+/// The body that the text of a DO is: PostgreSQL manual, "DO". 54000 where the text has 2^32 - 1
+/// bytes or more; else the SQLSTATE of the first lexeme that is bad, 54001 where more than 100
+/// parts stand inside one another, 42601 where the text is no body, or the SQLSTATE of the first
+/// rule that the body breaks.
+pub fn read_do_text(alloc: Global, text: &Txt) -> Result<Held<Body>, ScopeFail>
+    ensures { Gives result (spec.body_of_text text.now spec.nameless) }
+{
+    let result = ResultType::Absent;
+    let heading = Heading {
+        name: None,
+        kind: Kind::Do,
+        params: &[],
+        result: &result,
+    };
+    read(alloc, text.as_bytes(), &heading)
 }

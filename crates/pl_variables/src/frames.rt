@@ -1,6 +1,6 @@
 //! The calls that run and their variables, which are found by their places.
 
-ghost use Rattle.std.specs.Prelude.{◌≡◌, length, take, OnOk, OnErr};
+ghost use Rattle.std.specs.Prelude.{◌≡◌, length, reverse, take, OnOk, OnErr};
 ghost use Rattle.std.specs.Borrow.{Lends, sem};
 ghost use Rattle.pl_variables.specs.Frames as spec;
 ghost use Rattle.pl_variables.specs.contracts.frames.Frames.{the_row};
@@ -72,6 +72,13 @@ impl<C> Frames<C> {
     {
         let newest = &mut self.newest;
         &mut newest.call
+    }
+
+    /// The calls below the newest one, the newest of them last. The first stands for no call.
+    pub fn below(&self) -> &[Frame<C>]
+        ensures { reverse result.now ≡ self.now.below }
+    {
+        self.below.as_slice()
     }
 
     /// How many calls run.

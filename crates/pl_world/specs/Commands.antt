@@ -13,7 +13,6 @@ use Rattle.pl_bodies.specs.declared.simple.Target.{Target}
 use Rattle.pl_journal.specs.Definitions.{Behind, redefined}
 use Rattle.pl_meaning.specs.Replies.{notice_line}
 use Rattle.pl_names.specs.Names.{Name}
-use Rattle.pl_reading.specs.Defining.{stored_by}
 use Rattle.pl_resolved.specs.declared.query.Head.{Head}
 use Rattle.pl_resolved.specs.declared.query.RQuery.{RQuery}
 use Rattle.pl_targets.specs.declared.change.RChange.{RChange}
@@ -158,8 +157,8 @@ with_database db w = record w { database = db }
 
 -- for every form of an end that an error may take: what is answered where there is none
 module _ {O : Type 0} (failed : Fail → O) where
-  unfoldable pub defines : O → Spot → Definition → List ℕ → World → Ran O
+  unfoldable pub defines : O → Spot → Option Definition → List ℕ → World → Ran O
   defines done at d source w =
       behind (Began a_definition ∷ [])
-      (resolves failed (defining (stored_by d source) source w.changing w.database) at w (λ b.
+      (resolves failed (defining d source w.changing w.database) at w (λ b.
       noticed b.notice done (with_database b.database w)))

@@ -19,6 +19,7 @@ use Rattle.pl_print.specs.declared.reply.Grid.{Grid}
 use Rattle.pl_print.specs.declared.reply.Level.TheVariants.{Warning}
 use Rattle.pl_print.specs.declared.reply.Tag.{Tag}
 use Rattle.pl_print.specs.declared.reply.Tag.TheVariants as tag
+use Rattle.pl_reading.specs.Defining.{stored_by}
 use Rattle.pl_resolved.specs.declared.query.Head.{Head}
 use Rattle.pl_targets.specs.declared.change.RChange.{RChange}
 use Rattle.pl_tree.specs.declared.command.Command.{Command}
@@ -102,7 +103,7 @@ command_done r (command.Insert i) w = changes r (change.Insert i) w
 command_done r (command.Update u) w = changes r (change.Update u) w
 command_done r (command.Delete d) w = changes r (change.Delete d) w
 command_done r (command.Define d source) w =
-    defines failed (tagged (meaning.tag_of d)) top d source w
+    defines failed (tagged (meaning.tag_of d)) top (stored_by d source) source w
 command_done r (command.Do language text) w =
     and_then (does r top language text w) (ran_body tag.Do)
 command_done r (command.Call name arguments) w = calls r name arguments w

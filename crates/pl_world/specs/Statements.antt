@@ -4,7 +4,6 @@
 use Rattle.std.specs.Prelude.{ℕ, zero, suc, List, [], Option, Some, None}
 use Rattle.pl_base.specs.States.{FEATURE_NOT_SUPPORTED, QUERY_CANCELED}
 use Rattle.pl_bodies.specs.declared.simple.Change.{Change}
-use Rattle.pl_bodies.specs.declared.simple.Change.TheVariants as change
 use Rattle.pl_bodies.specs.declared.simple.IntoClause.{IntoClause}
 use Rattle.pl_bodies.specs.declared.simple.Simple.{Simple}
 use Rattle.pl_bodies.specs.declared.simple.Simple.TheVariants as simple
@@ -22,6 +21,7 @@ use Rattle.pl_bodies.specs.declared.statement.StatementKind.{StatementKind, out-
 use Rattle.pl_bodies.specs.declared.statement.StatementKind.TheOpen.{StatementKind-F}
 use Rattle.pl_bodies.specs.declared.statement.StatementKind.TheOpen as kind
 use Rattle.pl_names.specs.Names.{Name}
+use Rattle.pl_reading.specs.Computed.{definition_in}
 use Rattle.pl_tree.specs.declared.command.Command.{Command}
 use Rattle.pl_tree.specs.declared.command.Command.TheVariants as command
 use Rattle.pl_tree.specs.declared.tree.Query.{Query}
@@ -64,14 +64,15 @@ alters r at c into w =
     resolved (altering c (targets_in into) w.database.objects w.frame.static) at w (λ a.
     altered r at into a w)
 
--- any other command
+-- Any other command. Queries and changes have forms of their own. A definition is what its text is
+-- read as by itself.
 abbrev pub command_form : Runner → Spot → Command → World → Ran Outcome
-command_form r at (command.Query q) w = queries r at q None w
-command_form r at (command.Insert i) w = alters r at (change.Insert i) None w
-command_form r at (command.Update u) w = alters r at (change.Update u) None w
-command_form r at (command.Delete d) w = alters r at (change.Delete d) None w
+command_form r at (command.Query q) w = waits at w
+command_form r at (command.Insert i) w = waits at w
+command_form r at (command.Update u) w = waits at w
+command_form r at (command.Delete d) w = waits at w
 command_form r at (command.Define d source) w =
-    defines outcome.Fail outcome.Next at d source w
+    defines outcome.Fail outcome.Next at (definition_in source) source w
 command_form r at (command.Do language text) w = does r at language text w
 command_form r at (command.Call name arguments) w =
     resolved (calling name arguments w.database.objects w.frame.static) at w (λ c.
