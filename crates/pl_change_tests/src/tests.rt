@@ -1,6 +1,6 @@
 //! Commands over one table, worked out by hand.
 
-ghost use Rattle.std.specs.Prelude.{◌≡◌};
+ghost use Rattle.std.specs.Prelude.{◌≡◌, []};
 
 use pl_base::{
     Arithmetic, Boxed, Cells, Comparison, Held, List, Name, Op, Operator, Txt, Ty, Value,
@@ -473,9 +473,10 @@ fn run(
     change(alloc, &command, &outer, journal, &mut NoRoutines)
 }
 
-// The table, if the database is that of the last commit.
+// The table, if the database is that of the last commit and no mark is live.
 fn create(alloc: Global, journal: &mut Journal) -> Result<(), Unsettled>
-    requires { journal.old.last ≡ journal.old.now }
+    requires settled { journal.old.last ≡ journal.old.now }
+    requires unmarked { journal.old.marks ≡ [] }
 {
     let text = Txt::from_slice(alloc, TABLE.as_bytes())?;
     match journal.apply(Op::Define { text }) {

@@ -15,6 +15,7 @@ use Rattle.pl_define.specs.declared.definition.Defined.TheVariants.{Add, Drop, R
 use Rattle.pl_define.proofs.Done as laws
 use Rattle.pl_journal.specs.Definitions.{behind, redefined}
 use Rattle.pl_journal.specs.Journal.{IsKept}
+use Rattle.pl_journal.specs.Steps.{Continues}
 use Rattle.pl_journal.proofs.Opening.{define_done, noticed}
 use Rattle.pl_journal.proofs.Steps.{kept_more}
 use Rattle.pl_reading.specs.Computed.{definition_in}
@@ -39,7 +40,7 @@ module _ (known objects : List Object) (same : known ≡ objects) (definition : 
   dropped_there w same_d = ap (λ (o : Option Object). is_some o) (laws.dropped_there objects definition text w (gives (Drop w) same_d)).1
 
 module _ (payload : List ℕ) (s t : Stored) (kept : IsKept payload s) (definition : Definition) (text : List ℕ) (reads : definition_in text ≡ Some definition) where
-  pub define_kept : (longer : List ℕ) → OpReadsBack (Define text) → longer ≡ payload ++ op_bytes (Define text) → (notice : Option State) → redefined definition text s.now ≡ Ok (behind t.now notice) → t.last ≡ s.last → t.marks ≡ s.marks → IsKept longer t
+  pub define_kept : (longer : List ℕ) → OpReadsBack (Define text) → longer ≡ payload ++ op_bytes (Define text) → (notice : Option State) → redefined definition text s.now ≡ Ok (behind t.now notice) → t.last ≡ s.last → t.marks ≡ s.marks → Continues payload longer s t
   define_kept longer back longer_is notice is is_last is_marks = kept_more payload longer s t (Define text) kept back (define_done definition text s.now reads t.now notice is) longer_is is_last is_marks
 
   pub as_noticed : (state : State) → redefined definition text s.now ≡ Ok (behind t.now (Some state)) → t.now ≡ s.now

@@ -13,6 +13,7 @@ pub mod Sound
 pub mod Payload
 pub mod Stored
 pub mod Steps
+pub mod Fronts
 pub mod Writes
 pub mod Opening
 pub mod CarriedOut

@@ -4,7 +4,7 @@ use Rattle.std.proofs.lemmas.Bool.Decides.{Decides-eqb}
 use Rattle.std.proofs.lemmas.Slice.Eq.{slice_eq-Decides}
 use Rattle.std.specs.Cmp.Lexicographic.{pointwise}
 use Rattle.std.specs.Prelude.{IsSome, option_map}
-use Rattle.pl_journal.specs.Journal.{ChangesOnly}
+use Rattle.pl_journal.specs.Journal.{ChangesOnly, with_room}
 use Rattle.pl_journal.proofs.Truths.{some_is}
 use Rattle.pl_tables.specs.Named.{Named, named, content_named, on_table}
 use Rattle.pl_tables.specs.Rows.{Content}
@@ -85,3 +85,7 @@ only_then name a b c first second =
       last = second.last ∙ first.last;
       marks = second.marks ∙ first.marks;
     }
+
+-- the same, whatever room for marks there is
+pub only_with_room : (room : ℕ) (name : List ℕ) (old new : Stored) → ChangesOnly name old new → ChangesOnly name (with_room room old) (with_room room new)
+only_with_room room name old new only = record { there = only.there; others = only.others; objects = only.objects; last = only.last; marks = only.marks }

@@ -1,6 +1,7 @@
 -- What each write is as an operation, and that a journal stays kept.
 use Rattle.std.proofs.Common.{◌≡◌, ◌+◌, ◌^◌, ◌&&◌, ◌||◌, ◌++◌, ◌∙◌, ℕ, max, List, [], length, cond, nat_eq, nat_le, nat_lt, not, Bool, true, false, Option, Some, None, Result, Err, refl, sym, ap, subst, arith}
 use Rattle.std.specs.Prelude.{is_some, option_and_then, option_map, IsSome}
+use Rattle.std.proofs.lemmas.List.{append-nil}
 use Rattle.pl_base.specs.States.{PROGRAM_LIMIT_EXCEEDED}
 use Rattle.pl_base.specs.declared.operation.Op.{Op}
 use Rattle.pl_base.specs.declared.operation.Op.TheVariants.{Put, Remove}
@@ -12,7 +13,7 @@ use Rattle.pl_codec.specs.Spelling.{is_row_id, op_bytes}
 use Rattle.pl_journal.specs.Journal.{IsKept, Leads, LeadsTo}
 use Rattle.pl_journal.specs.Operation.{apply, apply_all, may_stand, put, put_in}
 use Rattle.pl_journal.specs.Sound.{IsSound, IsSoundTable}
-use Rattle.pl_journal.specs.Steps.{free_id, id_if, refusal_by, Refuses}
+use Rattle.pl_journal.specs.Steps.{free_id, id_if, refusal_by, Continues, Refuses}
 use Rattle.pl_journal.specs.Writing.{is_taken_beside, state_of, unless, with_row, unless_broken, written, written_by}
 use Rattle.pl_journal.proofs.OneTable.{changed_alike}
 use Rattle.pl_journal.proofs.Payload.{leads_more, leads_nowhere}
@@ -37,27 +38,37 @@ leads_same : (payload cut : List ℕ) (last now last' now' : Database) → Leads
 leads_same payload cut last now last' now' so is is_last is_now =
     record { ops = so.ops; spelled = is ∙ so.spelled; back = so.back; leads = ap (λ (d : Database). apply_all so.ops d) is_last ∙ (so.leads ∙ ap (λ (d : Database). let o : Option Database = Some d in o) (sym is_now)) }
 
-pub kept_same : (payload cut : List ℕ) (s t : Stored) → IsKept payload s → cut ≡ payload → t.now ≡ s.now → t.last ≡ s.last → t.marks ≡ s.marks → IsKept cut t
+pub kept_same : (payload cut : List ℕ) (s t : Stored) → IsKept payload s → cut ≡ payload → t.now ≡ s.now → t.last ≡ s.last → t.marks ≡ s.marks → Continues payload cut s t
 kept_same payload cut s t kept is is_now is_last is_marks =
     record {
-      now = subst (λ (d : Database). IsSound d) (sym is_now) kept.now;
-      last = subst (λ (d : Database). IsSound d) (sym is_last) kept.last;
-      leads = leads_same payload cut s.last s.now t.last t.now kept.leads is is_last is_now;
-      marks = is_marks ∙ kept.marks;
+      kept = record {
+        now = subst (λ (d : Database). IsSound d) (sym is_now) kept.now;
+        last = subst (λ (d : Database). IsSound d) (sym is_last) kept.last;
+        leads = leads_same payload cut s.last s.now t.last t.now kept.leads is is_last is_now;
+      };
+      more = [];
+      grows = is ∙ sym (append-nil payload);
+      last = is_last;
+      marks = is_marks;
     }
 
-pub kept_more : (payload longer : List ℕ) (s t : Stored) (op : Op) → IsKept payload s → OpReadsBack op → apply op s.now ≡ Some t.now → longer ≡ payload ++ op_bytes op → t.last ≡ s.last → t.marks ≡ s.marks → IsKept longer t
+pub kept_more : (payload longer : List ℕ) (s t : Stored) (op : Op) → IsKept payload s → OpReadsBack op → apply op s.now ≡ Some t.now → longer ≡ payload ++ op_bytes op → t.last ≡ s.last → t.marks ≡ s.marks → Continues payload longer s t
 kept_more payload longer s t op kept back done is is_last is_marks =
     record {
-      now = apply_keeps op s.now t.now done kept.now;
-      last = subst (λ (d : Database). IsSound d) (sym is_last) kept.last;
-      leads = leads_same (payload ++ op_bytes op) longer s.last t.now t.last t.now (leads_more payload s.last s.now t.now op kept.leads back done) is is_last refl;
-      marks = is_marks ∙ kept.marks;
+      kept = record {
+        now = apply_keeps op s.now t.now done kept.now;
+        last = subst (λ (d : Database). IsSound d) (sym is_last) kept.last;
+        leads = leads_same (payload ++ op_bytes op) longer s.last t.now t.last t.now (leads_more payload s.last s.now t.now op kept.leads back done) is is_last refl;
+      };
+      more = op_bytes op;
+      grows = is;
+      last = is_last;
+      marks = is_marks;
     }
 
-pub kept_at_rest : (payload : List ℕ) (s : Stored) → payload ≡ [] → IsSound s.now → s.last ≡ s.now → s.marks ≡ [] → IsKept payload s
-kept_at_rest payload s is sound is_last is_marks =
-    record { now = sound; last = subst (λ (d : Database). IsSound d) (sym is_last) sound; leads = leads_same [] payload s.now s.now s.last s.now (leads_nowhere s.now) is is_last refl; marks = is_marks }
+pub kept_at_rest : (payload : List ℕ) (s : Stored) → payload ≡ [] → IsSound s.now → s.last ≡ s.now → IsKept payload s
+kept_at_rest payload s is sound is_last =
+    record { now = sound; last = subst (λ (d : Database). IsSound d) (sym is_last) sound; leads = leads_same [] payload s.now s.now s.last s.now (leads_nowhere s.now) is is_last refl }
 
 -- ---- a row under an id
 

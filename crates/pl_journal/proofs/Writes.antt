@@ -9,7 +9,7 @@ use Rattle.pl_catalog.specs.declared.object.TableDef.{TableDef}
 use Rattle.pl_codec.specs.ReadBack.{OpReadsBack}
 use Rattle.pl_codec.specs.Spelling.{is_row_id, is_table_name, op_bytes}
 use Rattle.pl_journal.specs.Journal.{IsKept, Leads}
-use Rattle.pl_journal.specs.Steps.{free_id, refusal_by, refusal_of}
+use Rattle.pl_journal.specs.Steps.{free_id, refusal_by, refusal_of, Continues}
 use Rattle.pl_journal.specs.Writing.{written}
 use Rattle.pl_journal.proofs.Payload.{cut_back}
 use Rattle.pl_journal.proofs.Steps.{as_written, full_written, insert_is, insert_stored, kept_more, kept_same, remove_is, replace_is, replace_stored}
@@ -27,7 +27,7 @@ use Rattle.pl_value.specs.Frames.{Row}
 
 -- the call that is refused leaves all as it was
 module _ (payload longer cut bytes : List ℕ) (size : ℕ) (s t : Stored) (kept : IsKept payload s) where
-  pub refused_kept : longer ≡ payload ++ bytes → size ≡ length payload → cut ≡ take size longer → t.now ≡ s.now → t.last ≡ s.last → t.marks ≡ s.marks → IsKept cut t
+  pub refused_kept : longer ≡ payload ++ bytes → size ≡ length payload → cut ≡ take size longer → t.now ≡ s.now → t.last ≡ s.last → t.marks ≡ s.marks → Continues payload cut s t
   refused_kept is so cuts is_now is_last is_marks = kept_same payload cut s t kept (cut_back payload longer bytes cut size is so cuts) is_now is_last is_marks
 
 module _ (payload : List ℕ) (s : Stored) (kept : IsKept payload s) (name : List ℕ) (row : Row) (keeps : refusal_by (table_named name (tables_in s.now.objects)) row ≡ None) where
@@ -49,7 +49,7 @@ module _ (payload : List ℕ) (s : Stored) (kept : IsKept payload s) (name : Lis
     pub has_id : is_row_id id ≡ true
     has_id = insert_stored s.now kept.now name row keeps id is_free
 
-    pub inserted_kept : (longer : List ℕ) (t : Stored) → ((holder : ℕ) → HoldsIn row holder (content_named name s.now.tables) → ⊥) → OpReadsBack (Put name id row) → longer ≡ payload ++ op_bytes (Put name id row) → t.now ≡ on_rows name (inserted row) s.now → t.last ≡ s.last → t.marks ≡ s.marks → IsKept longer t
+    pub inserted_kept : (longer : List ℕ) (t : Stored) → ((holder : ℕ) → HoldsIn row holder (content_named name s.now.tables) → ⊥) → OpReadsBack (Put name id row) → longer ≡ payload ++ op_bytes (Put name id row) → t.now ≡ on_rows name (inserted row) s.now → t.last ≡ s.last → t.marks ≡ s.marks → Continues payload longer s t
     inserted_kept longer t none back is is_now is_last is_marks =
         kept_more payload longer s t (Put name id row) kept back
         (insert_is s.now kept.now name row keeps id is_free none ∙ ap (λ (d : Database). let o : Option Database = Some d in o) (sym is_now)) is is_last is_marks
@@ -78,7 +78,7 @@ module _ (payload : List ℕ) (s : Stored) (kept : IsKept payload s) (name : Lis
     pub old_id : is_row_id id ≡ true
     old_id = replace_stored s.now kept.now name row keeps id some
 
-    pub replaced_kept : (longer : List ℕ) (t : Stored) → ((holder : ℕ) → HoldsIn row holder (content_named name s.now.tables) → holder ≡ id) → OpReadsBack (Put name id row) → longer ≡ payload ++ op_bytes (Put name id row) → t.now ≡ on_rows name (replaced id row) s.now → t.last ≡ s.last → t.marks ≡ s.marks → IsKept longer t
+    pub replaced_kept : (longer : List ℕ) (t : Stored) → ((holder : ℕ) → HoldsIn row holder (content_named name s.now.tables) → holder ≡ id) → OpReadsBack (Put name id row) → longer ≡ payload ++ op_bytes (Put name id row) → t.now ≡ on_rows name (replaced id row) s.now → t.last ≡ s.last → t.marks ≡ s.marks → Continues payload longer s t
     replaced_kept longer t none back is is_now is_last is_marks =
         kept_more payload longer s t (Put name id row) kept back
         (replace_is s.now kept.now name row keeps id some none ∙ ap (λ (d : Database). let o : Option Database = Some d in o) (sym is_now)) is is_last is_marks
@@ -99,7 +99,7 @@ module _ (payload : List ℕ) (s : Stored) (kept : IsKept payload s) (name : Lis
   pub its_name : is_table_name name ≡ true
   its_name = there_named s.now kept.now name id some
 
-  pub removed_kept : (longer : List ℕ) (t : Stored) → OpReadsBack (Remove name id) → longer ≡ payload ++ op_bytes (Remove name id) → t.now ≡ on_rows name (removed id) s.now → t.last ≡ s.last → t.marks ≡ s.marks → IsKept longer t
+  pub removed_kept : (longer : List ℕ) (t : Stored) → OpReadsBack (Remove name id) → longer ≡ payload ++ op_bytes (Remove name id) → t.now ≡ on_rows name (removed id) s.now → t.last ≡ s.last → t.marks ≡ s.marks → Continues payload longer s t
   removed_kept longer t back is is_now is_last is_marks =
       kept_more payload longer s t (Remove name id) kept back
       (remove_is s.now name id some ∙ ap (λ (d : Database). let o : Option Database = Some d in o) (sym is_now)) is is_last is_marks

@@ -1,6 +1,6 @@
 -- How a journal stands to what was changed.
-use Rattle.std.specs.Prelude.{◌≡◌, ℕ, Bool, true, false, List, [], Option, Some, None, Result, Ok, Err}
-use Rattle.std.specs.Prelude.{nat_eq, IsSome}
+use Rattle.std.specs.Prelude.{◌≡◌, ◌≤◌, ℕ, min, Bool, true, false, List, [], ◌∷◌, length, take}
+use Rattle.std.specs.Prelude.{Option, Some, None, Result, Ok, Err, nat_eq, IsSome}
 use Rattle.std.specs.Cmp.Lexicographic.{pointwise}
 use Rattle.std.specs.List.{AllByRecursion}
 use Rattle.pl_base.specs.declared.operation.Op.{Op}
@@ -27,13 +27,30 @@ pub record LeadsTo (payload : List ℕ) (last now : Database) : Type 0 where
   pub back : AllByRecursion OpReadsBack ops
   pub leads : apply_all ops last ≡ Some now
 
--- the database now and that of the last commit are sound, the payload leads from that one to this
--- one, and no mark is set
+-- the database now and that of the last commit are sound, and the payload leads from that one to
+-- this one
 pub record IsKept (payload : List ℕ) (s : Stored) : Type 0 where
   pub now : IsSound s.now
   pub last : IsSound s.last
   pub leads : LeadsTo payload s.last s.now
-  pub marks : s.marks ≡ []
+
+-- at each mark the payload was so long, no shorter than at the one before, and that front of it leads
+-- from the last commit's database to that of the mark
+abbrev pub AreFronts : List ℕ → (last : Database) → (least : ℕ) → List ℕ → (marks : List Database)
+    → Type 0
+AreFronts payload last least [] [] = least ≤ length payload
+AreFronts payload last least (n ∷ ns) (d ∷ ds) =
+    (least ≤ n) × LeadsTo (take n payload) last d × AreFronts payload last n ns ds
+AreFronts payload last least ns ds = ⊥
+
+-- so are the marks, at which the payload was so long
+pub record IsMarked (payload : List ℕ) (sizes : List ℕ) (s : Stored) : Type 0 where
+  pub kept : IsKept payload s
+  pub fronts : AreFronts payload s.last 0 sizes s.marks
+
+-- the store, with so much room for marks at the most
+abbrev pub with_room : ℕ → Stored → Stored
+with_room room s = record s { spare = min s.spare room }
 
 -- a write led to these tables, or memory was wanting
 abbrev pub Leads : {A : Type 0} → Result (List Named) State → Result A Unsettled → List Named

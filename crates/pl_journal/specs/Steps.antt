@@ -1,9 +1,11 @@
 -- How the functions behind a journal stand to the definitions. Nothing here needs belief.
-use Rattle.std.specs.Prelude.{◌≡◌, ◌^◌, ℕ, Bool, false, ◌&&◌, if◌then◌else◌, nat_le, []}
+use Rattle.std.specs.Prelude.{◌≡◌, ◌^◌, ◌++◌, ℕ, Bool, false, ◌&&◌, if◌then◌else◌, nat_le}
+use Rattle.std.specs.Prelude.{List, []}
 use Rattle.std.specs.Prelude.{Option, Some, None, option_map, Result, Ok, Err}
 use Rattle.pl_base.specs.States.{PROGRAM_LIMIT_EXCEEDED, UNDEFINED_TABLE, UNIQUE_VIOLATION}
 use Rattle.pl_base.specs.declared.state.State.{State}
 use Rattle.pl_catalog.specs.declared.object.TableDef.{TableDef}
+use Rattle.pl_journal.specs.Journal.{IsKept}
 use Rattle.pl_journal.specs.Sound.{IsSound}
 use Rattle.pl_journal.specs.Writing.{state_of}
 use Rattle.pl_rules.specs.Rules.{first_failure}
@@ -51,3 +53,11 @@ pub record IsAtRest (s : Stored) : Type 0 where
   pub sound : IsSound s.now
   pub last : s.last ≡ s.now
   pub marks : s.marks ≡ []
+
+-- what was done stands in the payload, behind what stood there, and the marks are as they were
+pub record Continues (payload longer : List ℕ) (old new : Stored) : Type 0 where
+  pub kept : IsKept longer new
+  pub more : List ℕ
+  pub grows : longer ≡ payload ++ more
+  pub last : new.last ≡ old.last
+  pub marks : new.marks ≡ old.marks

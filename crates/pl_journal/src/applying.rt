@@ -1,6 +1,6 @@
 //! Operations that are done as a store is opened.
 
-ghost use Rattle.std.specs.Prelude.{◌≡◌, None, true, is_some, IfOk};
+ghost use Rattle.std.specs.Prelude.{◌≡◌, [], None, true, is_some, IfOk};
 ghost use Rattle.pl_base.specs.declared.operation.Op.TheVariants.{Define, Next, Put, Remove};
 ghost use Rattle.pl_catalog.specs.Objects.{table_named, tables_in};
 ghost use Rattle.pl_codec.specs.Spelling.{is_row_id};
@@ -154,9 +154,11 @@ impl Journal {
     /// database now is then that of the last commit.
     pub fn apply(&mut self, op: Op) -> Result<bool, Memory>
         requires settled { self.old.last ≡ self.old.now }
+        requires unmarked { self.old.marks ≡ [] }
         ensures done { IfOk result (λ done. Becomes done self.old.now self.new.now
             (spec.apply op self.old.now)) }
         ensures settled { self.new.last ≡ self.new.now }
+        ensures unmarked { self.new.marks ≡ [] }
     {
         self.payload.clear();
         apply_to(self.alloc, &mut self.store, op)
@@ -166,9 +168,11 @@ impl Journal {
     /// doesn't, those before it are done.
     pub fn apply_all(&mut self, ops: Vec<Op>) -> Result<bool, Memory>
         requires settled { self.old.last ≡ self.old.now }
+        requires unmarked { self.old.marks ≡ [] }
         ensures done { IfOk result (λ done. AllApply done self.new.now
             (spec.apply_all ops.items self.old.now)) }
         ensures settled { self.new.last ≡ self.new.now }
+        ensures unmarked { self.new.marks ≡ [] }
     {
         for op in ops {
             if !self.apply(op)? {

@@ -7,6 +7,7 @@ ghost use Rattle.pl_define.specs.declared.definition.Defined.TheVariants.{Add, D
 ghost use Rattle.pl_journal.specs.Definitions as spec;
 ghost use Rattle.pl_journal.specs.Definitions.{carried_out, redefined};
 ghost use Rattle.pl_journal.specs.Journal.{IsKept, Redefines};
+ghost use Rattle.pl_journal.specs.Steps.{Continues};
 ghost use Rattle.pl_reading.specs.Computed.{definition_in};
 
 use crate::spelling::spell_define;
@@ -128,11 +129,12 @@ pub(crate) fn define_object(
 ) -> Result<Option<State>, ScopeFail>
     requires kept { IsKept payload.old.items store.old }
     requires text { definition_in text ≡ Some definition.now }
-    ensures kept { IsKept payload.new.items store.new }
+    ensures kept { Continues payload.old.items payload.new.items store.old store.new }
     ensures redefines { Redefines (redefined definition.now text store.old.now) result
         store.new.now }
     ensures err { OnErr result (store.new.now ≡ store.old.now) }
     ensures last { store.new.last ≡ store.old.last }
+    ensures marks { store.new.marks ≡ store.old.marks }
 {
     let size = payload.len();
     spell_define(alloc, payload, text.as_bytes())?;

@@ -1,6 +1,6 @@
 //! A database that keeps its rules, with what was done to it since the last commit.
 
-ghost use Rattle.std.specs.Prelude.{◌≡◌, None, Some, IsSome, OnOk, OnErr};
+ghost use Rattle.std.specs.Prelude.{◌≡◌, [], None, Some, IsSome, OnOk, OnErr};
 ghost use Rattle.pl_journal.specs.Definitions.{redefined};
 ghost use Rattle.pl_journal.specs.Journal.{ChangesOnly, Leads, LeadsTo, Redefines};
 ghost use Rattle.pl_journal.specs.Operation.{empty};
@@ -33,35 +33,40 @@ pub struct Journal {
     pub(crate) payload: Vec<u8>,
     /// The operation on a row that was spelled last.
     pub(crate) spelling: Vec<u8>,
+    /// How many bytes the payload had at each live mark.
+    pub(crate) sizes: Vec<usize>,
 }
 
 impl Model for Journal {
+    ghost use Rattle.std.specs.Prelude.{◌-◌, vec_capacity, vec_len};
     ghost use Rattle.std.specs.Coded.{codes};
     ghost use Rattle.pl_base.specs.contracts.value.Value as value;
     ghost use Rattle.pl_catalog.specs.contracts.object.Object as object;
-    ghost use Rattle.pl_journal.specs.Journal.{IsKept};
+    ghost use Rattle.pl_journal.specs.Journal.{IsMarked, with_room};
     ghost use Rattle.pl_undo.specs.Store.{Stored};
 
     ghost Value = { Stored };
 
     ghost coded = { Prim.hlevel (codes, value.the_row.coded, object.the_row.coded) };
 
-    ghost view = { λ j. j.store };
+    ghost view = { λ j. with_room (vec_capacity j.sizes - vec_len j.sizes) j.store };
 
-    ghost invariant = { λ j. IsKept j.payload.items j.store };
+    ghost invariant = { λ j. IsMarked j.payload.items j.sizes.items j.store };
 }
 
 impl Journal {
-    /// No object, and nothing was changed.
+    /// No object, nothing was changed, and no mark is live.
     pub fn new(alloc: Global) -> Journal
         ensures now { result.now ≡ empty }
         ensures last { result.last ≡ empty }
+        ensures marks { result.marks ≡ [] }
     {
         Journal {
             alloc,
             store: Store::new(alloc),
             payload: Vec::new(alloc),
             spelling: Vec::new(alloc),
+            sizes: Vec::new(alloc),
         }
     }
 
@@ -102,6 +107,7 @@ impl Journal {
             self.new.now }
         ensures err { OnErr result (self.new.now ≡ self.old.now) }
         ensures last { self.new.last ≡ self.old.last }
+        ensures marks { self.new.marks ≡ self.old.marks }
     {
         define_object(
             self.alloc,
@@ -168,21 +174,25 @@ impl Journal {
         )
     }
 
-    /// The database now becomes that of the last commit.
+    /// The database now becomes that of the last commit. No mark is live then.
     pub fn seal(&mut self)
         ensures now { self.new.now ≡ self.old.now }
         ensures last { self.new.last ≡ self.old.now }
+        ensures marks { self.new.marks ≡ [] }
     {
         self.payload.clear();
+        self.sizes.clear();
         self.store.seal();
     }
 
-    /// Goes back to the last commit.
+    /// Goes back to the last commit. No mark is live then.
     pub fn reset(&mut self)
         ensures now { self.new.now ≡ self.old.last }
         ensures last { self.new.last ≡ self.old.last }
+        ensures marks { self.new.marks ≡ [] }
     {
         self.payload.clear();
+        self.sizes.clear();
         self.store.reset();
     }
 }

@@ -6,6 +6,7 @@ mod applying;
 mod defining;
 mod journal;
 mod lending;
+mod marks;
 mod spelling;
 mod whole;
 mod writing;

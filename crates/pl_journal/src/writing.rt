@@ -4,7 +4,7 @@
 ghost use Rattle.std.specs.Prelude.{◌≡◌, None, Some, IsSome, OnOk, OnErr, option_map, take};
 ghost use Rattle.pl_catalog.specs.Objects.{table_named, tables_in};
 ghost use Rattle.pl_journal.specs.Journal.{ChangesOnly, IsKept, Leads};
-ghost use Rattle.pl_journal.specs.Steps.{free_id, refusal_by, refusal_of, Refuses};
+ghost use Rattle.pl_journal.specs.Steps.{free_id, refusal_by, refusal_of, Continues, Refuses};
 ghost use Rattle.pl_journal.specs.Writing.{state_of, written};
 ghost use Rattle.pl_rules.specs.Rules.{first_failure};
 ghost use Rattle.pl_tables.specs.Named.{content_named, row_named};
@@ -85,7 +85,7 @@ fn add_row(
     requires kept { IsKept payload.old.items store.old }
     requires keeps { refusal_by (table_named name (tables_in store.old.now.objects)) row ≡ None }
     requires free { free_id (content_named name store.old.now.tables) ≡ Some id }
-    ensures kept { IsKept payload.new.items store.new }
+    ensures kept { Continues payload.old.items payload.new.items store.old store.new }
     ensures leads { Leads (written store.old.now.objects name None row store.old.now.tables) result
         store.new.now.tables }
     ensures only { ChangesOnly name store.old store.new }
@@ -109,7 +109,7 @@ pub(crate) fn insert_row(
     row: Cells,
 ) -> Result<(), Unsettled>
     requires kept { IsKept payload.old.items store.old }
-    ensures kept { IsKept payload.new.items store.new }
+    ensures kept { Continues payload.old.items payload.new.items store.old store.new }
     ensures leads { Leads (written store.old.now.objects name None row store.old.now.tables) result
         store.new.now.tables }
     ensures only { ChangesOnly name store.old store.new }
@@ -134,7 +134,7 @@ fn change_row(
     requires kept { IsKept payload.old.items store.old }
     requires keeps { refusal_by (table_named name (tables_in store.old.now.objects)) row ≡ None }
     requires there { IsSome (row_named name id store.old.now.tables) }
-    ensures kept { IsKept payload.new.items store.new }
+    ensures kept { Continues payload.old.items payload.new.items store.old store.new }
     ensures leads { Leads (written store.old.now.objects name (Some id) row store.old.now.tables)
         result store.new.now.tables }
     ensures only { ChangesOnly name store.old store.new }
@@ -160,7 +160,7 @@ pub(crate) fn replace_row(
 ) -> Result<(), Unsettled>
     requires kept { IsKept payload.old.items store.old }
     requires there { IsSome (row_named name id store.old.now.tables) }
-    ensures kept { IsKept payload.new.items store.new }
+    ensures kept { Continues payload.old.items payload.new.items store.old store.new }
     ensures leads { Leads (written store.old.now.objects name (Some id) row store.old.now.tables)
         result store.new.now.tables }
     ensures only { ChangesOnly name store.old store.new }
@@ -180,7 +180,7 @@ pub(crate) fn remove_row(
 ) -> Result<(), AllocError>
     requires kept { IsKept payload.old.items store.old }
     requires there { IsSome (row_named name id store.old.now.tables) }
-    ensures kept { IsKept payload.new.items store.new }
+    ensures kept { Continues payload.old.items payload.new.items store.old store.new }
     ensures ok { OnOk result (store.new.now ≡ on_rows name (removed id) store.old.now) }
     ensures only { ChangesOnly name store.old store.new }
     ensures err { OnErr result (store.new.now ≡ store.old.now) }

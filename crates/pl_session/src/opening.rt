@@ -24,9 +24,11 @@ fn apply_next(
     batch: Batch,
 ) -> Result<Option<u64>, Memory>
     requires settled { journal.old.last ≡ journal.old.now }
+    requires unmarked { journal.old.marks ≡ [] }
     ensures reaches { (list : List Stored) → Reaches list journal.old.now stopped
         → IfOk result (Reaches (list ++ stored batch ∷ []) journal.new.now) }
     ensures settled { journal.new.last ≡ journal.new.now }
+    ensures unmarked { journal.new.marks ≡ [] }
 {
     let None = stopped else {
         return Ok(stopped);

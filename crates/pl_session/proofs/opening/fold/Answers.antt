@@ -18,6 +18,7 @@ batches-init g c = record {
   looks = no_look (g.H.Disk.view c.args.host.now);
   folded = λ told. record { list = []; reading = c.requires.reading told; reaches = ap (λ (d : Database). let r : Result Database ℕ = Ok d in r) (sym c.new-journal.ensures.now) };
   settled = c.new-journal.ensures.last ∙ sym c.new-journal.ensures.now;
+  unmarked = c.new-journal.ensures.marks;
 }
 
 pub batches-preserved : goal.batches-preserved
@@ -34,6 +35,7 @@ batches-preserved g c =
           let step = subst (λ (s : Step). IsStep d reader folded.list s) c.in-Read.is (c.in_ok-step.ensures.step before folded.list folded.reading) in
           record { list = folded.list ++ stored c.in-Read.batch ∷ []; reading = step.1; reaches = c.in_ok-stopped-in-Read.ensures.reaches folded.list folded.reaches };
       settled = c.apply_next.ensures.settled;
+      unmarked = c.apply_next.ensures.unmarked;
     }
 
 pub returns-in_default-clause-settled : goal.returns-in_default-clause-settled
@@ -57,3 +59,15 @@ returns-in-End-clause-cause g c told =
     let store = subst (λ (s : Step). IsStep d c.batches.reader folded.list s) c.in-End.is (c.in_ok-step.ensures.step before folded.list folded.reading) in
     stopped_at a d told (looks_on _ _ _ was.looks c.next.ensures.looks) c.in-End.keeper folded.list c.batches.journal.now c.head-area.result.0 c.in-Some.at store
     (subst (λ (o : Option ℕ). Reaches folded.list c.batches.journal.now o) c.in-Some.is folded.reaches) c.head-area.ensures.area
+
+pub returns-in_err-step-clause-looks : goal.returns-in_err-step-clause-looks
+returns-in_err-step-clause-looks g c = looks_on _ _ _ c.batches.invariant.looks c.next.ensures.looks
+
+pub returns-in_err-stopped-in-Read-clause-looks : goal.returns-in_err-stopped-in-Read-clause-looks
+returns-in_err-stopped-in-Read-clause-looks g c = looks_on _ _ _ c.batches.invariant.looks c.next.ensures.looks
+
+pub returns-in_default-clause-looks : goal.returns-in_default-clause-looks
+returns-in_default-clause-looks g c = looks_on _ _ _ c.batches.invariant.looks c.next.ensures.looks
+
+pub returns-in-End-clause-looks : goal.returns-in-End-clause-looks
+returns-in-End-clause-looks g c = looks_on _ _ _ c.batches.invariant.looks c.next.ensures.looks

@@ -1,4 +1,4 @@
-use Rattle.std.proofs.Common.{◌≡◌, ◌<◌, ◌-◌, ◌^◌}
+use Rattle.std.proofs.Common.{◌≡◌, ◌<◌, ◌-◌, ◌^◌, []}
 use Rattle.pl_disk.specs.Disk.{Looks}
 use Rattle.pl_session.proofs.Folding.{Folded}
 use Rattle.pl_session.proofs.opening.fold.Given as goal
@@ -10,6 +10,7 @@ invariant-batches g l = record {
   looks : Looks (g.H.Disk.view l.fn.host) (g.H.Disk.view l.host);
   folded : (g.H.Disk.view l.host).told → Folded (g.H.Disk.view l.host) l.reader l.journal.now l.stopped;
   settled : l.journal.last ≡ l.journal.now;
+  unmarked : l.journal.marks ≡ [];
 }
 
 abbrev pub decreases-batches : goal.decreases-batches

@@ -10,6 +10,7 @@ loop-op-init c =
     record {
       applied = refl;
       settled = c.requires.settled;
+      unmarked = c.requires.unmarked;
       split = sym given.0;
       counted = ap length given.0 ∙ (let counts : length c.args.ops.items ≡ vec_len c.args.ops = search rules in counts) ∙ sym given.1;
     }
@@ -30,6 +31,7 @@ loop-op-preserved c =
     record {
       applied = one_more c.loop-op.yielded c.in-Some.op c.args.self.now.now db c.apply.new.self.now was.applied done;
       settled = c.apply.ensures.settled;
+      unmarked = c.apply.ensures.unmarked;
       split = moved c.args.ops.items c.loop-op.yielded c.loop-op.op-iterator.rest.items c.next.new.self.rest.items c.in-Some.op was.split steps.0;
       counted = omega (arith, was.counted, ap length steps.0, steps.1);
     }
