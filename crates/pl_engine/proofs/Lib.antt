@@ -1,5 +1,9 @@
 pub mod Joins
 pub mod Lists
+pub mod Marking
 pub mod Popping
+pub mod Redefining
 pub mod Rises
 pub mod Tells
+pub mod Turned
+pub mod Writes

@@ -1,6 +1,6 @@
 -- Calls that are entered and left.
-use Rattle.std.proofs.Common.{◌≡◌, ℕ, List, [], ◌∷◌, ap, length, map, refl, suc}
-use Rattle.pl_engine.specs.Engines.{frame_of, world}
+use Rattle.std.proofs.Common.{◌≡◌, ℕ, List, [], ◌∷◌, ap, drop, length, map, refl, suc}
+use Rattle.pl_engine.specs.Engines.{frame_of, kept, world}
 use Rattle.pl_engine.specs.declared.call.Call.{Call}
 use Rattle.pl_engine.specs.declared.engine.Engine.{Engine}
 use Rattle.pl_variables.specs.Frames.{left, left_by}
@@ -21,3 +21,10 @@ left_world e (f ∷ fs) = refl
 pub left_call : (e : Engine) → world (record e { frames = left e.frames }) ≡ popped (world e)
 unfolding popped
 left_call e = left_world e e.frames.below
+
+left_stays : (e : Engine) (fs : List (Frame Call)) → e.frames.below ≡ fs → kept (record e { frames = left_by fs e.frames }) ≡ record (kept e) { below = drop 1 (map frame_of fs) }
+left_stays e [] is = ap (λ (fs : List (Frame Call)). record (kept e) { below = map frame_of fs }) is
+left_stays e (f ∷ fs) is = refl
+
+pub left_kept : (e : Engine) → kept (record e { frames = left e.frames }) ≡ record (kept e) { below = drop 1 (world e).below }
+left_kept e = left_stays e e.frames.below refl

@@ -1,5 +1,6 @@
 -- How the answers of functions over an engine and a port stand to a run.
-use Rattle.std.specs.Prelude.{◌≡◌, ◌<◌, ◌+◌, List, ◌∷◌, ◌++◌, Result, Ok, Err}
+use Rattle.std.specs.Prelude.{◌≡◌, ◌+◌, List, ◌∷◌, ◌++◌, Result, Ok, Err}
+use Rattle.pl_disk.specs.Disk.{Rises}
 use Rattle.pl_engine.specs.Engines.{stepped_in, world}
 use Rattle.pl_engine.specs.declared.engine.Engine.{Engine}
 use Rattle.pl_engine.specs.declared.port.Port.{Ghosts}
@@ -36,10 +37,10 @@ module _ {P : Type 0} (port : Ghosts P) where
 
   -- ---- stops
 
-  -- the count of the device for which this event was has risen
+  -- the count of the device for which this event was rises
   abbrev pub Blame : Stop → trace.Event → P → P → Type 0
-  Blame Disk (trace.Committed db) p q = port.disk_faults p < port.disk_faults q
-  Blame Say (trace.Said lines) p q = port.say_faults p < port.say_faults q
+  Blame Disk (trace.Committed db) p q = Rises (port.disk_faults p) (port.disk_faults q)
+  Blame Say (trace.Said lines) p q = Rises (port.say_faults p) (port.say_faults q)
   Blame stop e p q = ⊥
 
   -- Where a stop cut the events: between two of them, for want of memory, or at the first that

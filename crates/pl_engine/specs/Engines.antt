@@ -1,10 +1,12 @@
 -- The world that an engine stands for, and what an engine leaves as it was.
-use Rattle.std.specs.Prelude.{◌≡◌, ℕ, suc, Bool, true, false, List, [], ◌∷◌, ◌++◌, map, reverse}
+use Rattle.std.specs.Prelude.{◌≡◌, ℕ, suc, Bool, true, false, List, [], ◌∷◌, ◌++◌, length, map}
+use Rattle.std.specs.Prelude.{reverse}
 use Rattle.pl_base.specs.declared.value.Value.{Value}
 use Rattle.pl_base.specs.declared.value.Value.TheVariants.{Bool as Truth}
 use Rattle.pl_engine.specs.declared.engine.Engine.{Engine}
 use Rattle.pl_engine.specs.declared.call.Call.{Call}
 use Rattle.pl_names.specs.Names.{Name}
+use Rattle.pl_undo.specs.Database.{Database}
 use Rattle.pl_variables.specs.declared.frames.Frame.{Frame as Held}
 use Rattle.pl_world.specs.Scripts.{outward}
 use Rattle.pl_world.specs.World.{Event, Stepped, Raised, Began, Said, Committed, Frame, Ran}
@@ -22,6 +24,10 @@ frame_of f = record {
   handled = reverse f.call.handled.items;
 }
 
+-- it is a CALL or a DO
+abbrev pub is_command : Held Call → Bool
+is_command f = f.call.is_command
+
 abbrev pub world : Engine → World
 world e = record {
   database = e.journal.now;
@@ -29,7 +35,7 @@ world e = record {
   frame = frame_of e.frames.newest;
   below = map frame_of e.frames.below;
   steps = e.steps;
-  depth = e.depth;
+  depth = length e.journal.marks;
   in_block = e.in_block;
   changing = reverse e.changing.items;
 }
@@ -52,17 +58,18 @@ with_call routine is_command static values w = record w {
 
 -- ---- what statements do to it
 
--- what each statement leaves as it was
+-- what each statement leaves as it was; the databases at the marks are those that protected blocks
+-- and savepoints go back to, the newest last
 pub record Kept : Type 0 where
   pub below : List Frame
-  pub depth : ℕ
+  pub marks : List Database
   pub in_block : Bool
   pub changing : List Name
 
 abbrev pub kept : Engine → Kept
 kept e = record {
   below = (world e).below;
-  depth = (world e).depth;
+  marks = e.journal.marks;
   in_block = (world e).in_block;
   changing = (world e).changing;
 }

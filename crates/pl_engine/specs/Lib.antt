@@ -1,5 +1,7 @@
 pub mod Faults
 pub mod Engines
+pub mod Handling
+pub mod Changing
 pub mod Texts
 pub mod Answers
 pub mod Asks

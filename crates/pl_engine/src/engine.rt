@@ -1,6 +1,6 @@
 //! What statements work on.
 
-ghost use Rattle.std.specs.Prelude.{◌≡◌};
+ghost use Rattle.std.specs.Prelude.{◌≡◌, []};
 ghost use Rattle.pl_engine.specs.Engines.{Took, kept, world};
 ghost use Rattle.pl_world.specs.Sessions.{new_world, with_steps};
 
@@ -14,12 +14,11 @@ use std::alloc::Global;
 #[derive(Drop)]
 pub struct Engine {
     pub(crate) alloc: Global,
+    /// It has a mark for each block with handlers that runs its statements, and for each savepoint.
     pub(crate) journal: Journal,
     pub(crate) frames: Frames<Call>,
     /// The steps that are left.
     pub(crate) steps: u64,
-    /// How many blocks with handlers run their statements, and how many savepoints stand.
-    pub(crate) depth: usize,
     /// The session is in a transaction block.
     pub(crate) in_block: bool,
     /// The tables that running changes write, the newest last.
@@ -30,6 +29,7 @@ impl Engine {
     /// No call runs, and no step is left.
     pub fn new(alloc: Global, journal: Journal) -> Engine
         requires at_rest { journal.last ≡ journal.now }
+        requires unmarked { journal.marks ≡ [] }
         ensures { world result ≡ new_world journal.now }
     {
         Engine {
@@ -37,7 +37,6 @@ impl Engine {
             journal,
             frames: Frames::new(alloc, Call::none(alloc)),
             steps: 0,
-            depth: 0,
             in_block: false,
             changing: Vec::new(alloc),
         }
@@ -83,11 +82,11 @@ impl Engine {
         true
     }
 
-    /// Goes back to the last commit.
+    /// Goes back to the last commit. No block is protected then, and no savepoint stands.
     pub fn reset(&mut self)
         ensures world { world self.new
-            ≡ record (world self.old) { database = (world self.old).last } }
-        ensures keeps { kept self.new ≡ kept self.old }
+            ≡ record (world self.old) { database = (world self.old).last; depth = 0 } }
+        ensures keeps { kept self.new ≡ record (kept self.old) { marks = [] } }
     {
         self.journal.reset();
     }

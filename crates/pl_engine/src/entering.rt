@@ -1,7 +1,7 @@
 //! Calls that are entered and left.
 
-ghost use Rattle.std.specs.Prelude.{◌≡◌, length, OnOk};
-ghost use Rattle.pl_engine.specs.Engines.{with_call, world};
+ghost use Rattle.std.specs.Prelude.{◌≡◌, ◌∷◌, drop, length, OnOk};
+ghost use Rattle.pl_engine.specs.Engines.{kept, with_call, world};
 ghost use Rattle.pl_world.specs.Calls.{popped};
 
 use crate::call::Call;
@@ -27,8 +27,10 @@ impl Engine {
         declared: Static,
         arguments: List<Value>,
     ) -> Result<(), AllocError>
-        ensures { OnOk result (world self.new
+        ensures is { OnOk result (world self.new
             ≡ with_call routine is_command declared arguments (world self.old)) }
+        ensures keeps { OnOk result (kept self.new
+            ≡ record (kept self.old) { below = (world self.old).frame ∷ (world self.old).below }) }
     {
         let call = Call {
             routine,
@@ -42,7 +44,9 @@ impl Engine {
 
     /// The newest call is left, if one runs. Its variables are gone.
     pub fn leave(&mut self)
-        ensures { world self.new ≡ popped (world self.old) }
+        ensures is { world self.new ≡ popped (world self.old) }
+        ensures keeps { kept self.new
+            ≡ record (kept self.old) { below = drop 1 (world self.old).below } }
     {
         self.frames.leave();
     }

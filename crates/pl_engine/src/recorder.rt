@@ -62,10 +62,7 @@ impl Recorder {
             self.left -= 1;
             return Ok(());
         }
-        if self.faults == u64::MAX {
-            return Err(PortFail::Memory);
-        }
-        self.faults += 1;
+        self.faults = self.faults.saturating_add(1);
         Err(PortFail::Device)
     }
 }

@@ -26,6 +26,7 @@ pub fn say<P: Port>(engine: &Engine, port: &mut P, lines: &[u8]) -> Result<Outco
 
 /// Commits what was done since the last commit. `Disk` comes where storing failed.
 pub fn commit<P: Port>(engine: &mut Engine, port: &mut P) -> Result<Outcome, Stop>
+    requires unmarked { (world engine.old).depth ≡ 0 }
     requires fits { P.fits (world engine.old).last port.old }
     ensures is { Answers P.Port (committed (world engine.old)) result engine.old engine.new
         port.old port.new }

@@ -1,0 +1,13 @@
+use Rattle.std.proofs.Common.{None}
+use Rattle.pl_engine.proofs.Writes.{stays_kept, wrote}
+use Rattle.pl_engine.proofs.engine.Engine.insert.Goals as goal
+use Rattle.pl_engine.specs.Engines.{world}
+use Rattle.pl_journal.specs.Writing.{written}
+
+pub returns-clause-is : goal.returns-clause-is
+returns-clause-is c =
+    let db = (world c.args.self.now).database in
+    wrote c.args.self.now c.insert.new.self c.args.table c.insert.ensures.only (written db.objects c.args.table None c.args.row db.tables) c.insert.result c.insert.ensures.leads c.insert.ensures.err
+
+pub returns-clause-keeps : goal.returns-clause-keeps
+returns-clause-keeps c = stays_kept c.args.self.now c.insert.new.self c.args.table c.insert.ensures.only
