@@ -34,7 +34,8 @@ fn exit_end(label: &Option<Name>, to: Option<Name>) -> Outcome
     Outcome::Exit(to)
 }
 
-fn block_end(label: &Option<Name>, end: Outcome) -> Outcome
+/// How a block ends whose statements ended so.
+pub fn block_end(label: &Option<Name>, end: Outcome) -> Outcome
     ensures { result ≡ spec.block_end label.now end }
 {
     match end {
@@ -43,8 +44,8 @@ fn block_end(label: &Option<Name>, end: Outcome) -> Outcome
     }
 }
 
-// The declarations, up to the first that fails.
-fn declare<P: Port, F>(
+/// The declarations of a block, up to the first that fails.
+pub fn declare<P: Port, F>(
     runner: &Runner<F>,
     engine: &mut Engine,
     port: &mut P,

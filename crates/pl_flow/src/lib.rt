@@ -13,7 +13,7 @@ mod ranges;
 mod turns;
 
 pub use answered::{is_true, truth_of};
-pub use blocks::block;
+pub use blocks::{block, block_end, declare};
 pub use branching::branches;
 pub use cases::{not_found, searched};
 pub use jumps::jump;
