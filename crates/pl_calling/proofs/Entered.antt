@@ -1,5 +1,5 @@
--- Calls of functions: what the body runs in, and what is left behind it.
-use Rattle.std.proofs.Common.{◌≡◌, ◌∙◌, ℕ, Bool, true, false, List, [], ◌∷◌, Option, Some, None, Result, Ok, Err, IfOk, ap, arith, if◌then◌else◌, length, nat_lt, refl, subst, sym}
+-- Proofs that other crates' proofs may cite; no definition. Calls of routines: what the body runs in, and what is left behind it.
+use Rattle.std.proofs.Common.{◌≡◌, ◌∙◌, ℕ, Bool, true, false, List, [], ◌∷◌, Option, Some, None, Result, Ok, Err, IfOk, ap, arith, drop, if◌then◌else◌, length, nat_lt, refl, subst, sym}
 use Rattle.pl_base.specs.States.{INTERNAL_ERROR, STATEMENT_TOO_COMPLEX}
 use Rattle.pl_base.specs.declared.state.State.{State}
 use Rattle.pl_base.specs.declared.types.Ty.{Ty}
@@ -7,7 +7,6 @@ use Rattle.pl_base.specs.declared.value.Value.{Value}
 use Rattle.pl_bodies.specs.declared.statement.Body.{Body}
 use Rattle.pl_calc.specs.Answer.{Answer}
 use Rattle.pl_calling.specs.Called.{CallsIt, IsCallee}
-use Rattle.pl_calling.specs.Standing.{kept_in}
 use Rattle.pl_calling.specs.declared.callee.Found.{Found}
 use Rattle.pl_catalog.specs.Objects.{routine_named, routines_in}
 use Rattle.pl_catalog.specs.declared.object.Routine.{Routine}
@@ -31,9 +30,9 @@ use Rattle.pl_world.specs.declared.outcome.Outcome.TheVariants as outcome
 
 -- ---- a call is entered, and gone
 
-entered_is : (found : Found) (c : Callee) (values : List Value) (w : World) → IsCallee found c → with_call found.routine false found.declared values w ≡ entered c values w
+pub entered_is : (is_command : Bool) (found : Found) (c : Callee) (values : List Value) (w : World) → IsCallee is_command found c → with_call found.routine is_command found.declared values w ≡ entered c values w
 unfolding entered
-entered_is found c values w is = rw (is.0, is.1, is.2) refl
+entered_is is_command found c values w is = rw (is.0, is.1, is.2) refl
 
 popped_steps : (w : World) (fs : List Frame) → (popped_by fs w).steps ≡ w.steps
 popped_steps w [] = refl
@@ -51,32 +50,24 @@ gone_last : (w : World) → (popped w).last ≡ w.last
 unfolding popped
 gone_last w = popped_last w w.below
 
-gone_kept : (w : World) (f : Frame) (fs : List Frame) → w.below ≡ f ∷ fs → kept_in (popped w) ≡ record (kept_in w) { below = fs }
-unfolding popped
-gone_kept w f fs is = ap (λ (bs : List Frame). kept_in (popped_by bs w)) is
-
-left_is : (c : Callee) (o : Outcome) (w : World) → left c o w ≡ and_then (given c.result o (spot_of (body c.body)) w) (λ o w. ends o (popped w))
+pub left_is : (c : Callee) (o : Outcome) (w : World) → left c o w ≡ and_then (given c.result o (spot_of (body c.body)) w) (λ o w. ends o (popped w))
 unfolding left
 left_is c o w = refl
 
 -- what a call leaves as it was
-pub called_keeps : (e0 e1 e2 e3 : Engine) (found : Found) (values : List Value) → world e1 ≡ with_call found.routine false found.declared values (world e0) → kept e2 ≡ kept e1 → world e3 ≡ popped (world e2) → kept e3 ≡ kept e0
-called_keeps e0 e1 e2 e3 found values entering keeps leaving =
-    ap (λ (w : World). kept_in w) leaving
-    ∙ (gone_kept (world e2) (world e0).frame (world e0).below (ap (λ (k : Kept). k.below) keeps ∙ ap (λ (w : World). w.below) entering)
-    ∙ (ap (λ (k : Kept). record k { below = (world e0).below }) keeps
-    ∙ ap (λ (w : World). record (kept_in w) { below = (world e0).below }) entering))
+pub called_keeps : (e0 e1 e2 e3 : Engine) → kept e1 ≡ record (kept e0) { below = (world e0).frame ∷ (world e0).below } → kept e2 ≡ kept e1 → kept e3 ≡ record (kept e2) { below = drop 1 (world e2).below } → kept e3 ≡ kept e0
+called_keeps e0 e1 e2 e3 entering keeps leaving = leaving ∙ ap (λ (k : Kept). record k { below = drop 1 k.below }) (keeps ∙ entering)
 
 -- the whole of a call, in its caller's world
-abbrev whole : ℕ → Callee → List Value → World → Ran Outcome
+abbrev pub whole : ℕ → Callee → List Value → World → Ran Outcome
 whole room c values w = and_then (run_within do_bodies room (body c.body) (entered c values w)) (left c)
 
-module _ {P : Type 0} {port : Ghosts P} (law : Lawful port) (room : ℕ) (found : Found) (c : Callee) (is : IsCallee found c) (values : List Value) {e0 e1 e2 e3 : Engine} {p q : P} (fits : port.fits (world e0).last p) where
+module _ {P : Type 0} {port : Ghosts P} (law : Lawful port) (room : ℕ) (is_command : Bool) (found : Found) (c : Callee) (is : IsCallee is_command found c) (values : List Value) {e0 e1 e2 e3 : Engine} {p q : P} (fits : port.fits (world e0).last p) where
   -- the body ran, and the call is gone
-  pub called_done : (end o : Outcome) → world e1 ≡ with_call found.routine false found.declared values (world e0) → Done port (run_within do_bodies room (body found.body) (world e1)) end e1 e2 p q → Quiet (given found.result end (spot_of (body found.body)) (world e2)) o e2 e2
+  pub called_done : (end o : Outcome) → world e1 ≡ with_call found.routine is_command found.declared values (world e0) → Done port (run_within do_bodies room (body found.body) (world e1)) end e1 e2 p q → Quiet (given found.result end (spot_of (body found.body)) (world e2)) o e2 e2
       → world e3 ≡ popped (world e2) → Done port (whole room c values (world e0)) o e0 e3 p q
   called_done end o entering d quiet leaving =
-      let inside : world e1 ≡ entered c values (world e0) = entering ∙ entered_is found c values (world e0) is in
+      let inside : world e1 ≡ entered c values (world e0) = entering ∙ entered_is is_command found c values (world e0) is in
       let way0 : Partway port (whole room c values (world e0)) (whole room c values (world e0)) e0 e0 p p = start law (whole room c values (world e0)) e0 p fits in
       let way1 : Partway port (whole room c values (world e0)) (whole room c values (world e0)) e0 e1 p p = quietly law way0 (ap (λ (w : World). w.steps) entering) (ap (λ (w : World). w.last) entering) in
       let way2 : Partway port (whole room c values (world e0)) (and_then (run_within do_bodies room (body c.body) (world e1)) (left c)) e0 e1 p p =
@@ -97,29 +88,29 @@ pub each_ok : {A E : Type 0} {P Q : A → Type 0} (r : Result A E) → ((a : A) 
 each_ok (Ok a) f is = f a is
 each_ok (Err e) f is = tt
 
-called_is : (r : Runner) (c : Callee) (values : List Value) (at : Spot) (w : World) → nat_lt (length w.below) most_calls ≡ true → called r c values at w ≡ and_then (r.run (body c.body) (entered c values w)) (left c)
+pub called_is : (r : Runner) (c : Callee) (values : List Value) (at : Spot) (w : World) → nat_lt (length w.below) most_calls ≡ true → called r c values at w ≡ and_then (r.run (body c.body) (entered c values w)) (left c)
 unfolding called
 called_is r c values at w is = ap (λ (b : Bool). if b then and_then (r.run (body c.body) (entered c values w)) (left c) else raised STATEMENT_TOO_COMPLEX at w) is
 
-too_deep : (r : Runner) (c : Callee) (values : List Value) (at : Spot) (w : World) → nat_lt (length w.below) most_calls ≡ false → called r c values at w ≡ raised STATEMENT_TOO_COMPLEX at w
+pub too_deep : (r : Runner) (c : Callee) (values : List Value) (at : Spot) (w : World) → nat_lt (length w.below) most_calls ≡ false → called r c values at w ≡ raised STATEMENT_TOO_COMPLEX at w
 unfolding called
 too_deep r c values at w is = ap (λ (b : Bool). if b then and_then (r.run (body c.body) (entered c values w)) (left c) else raised STATEMENT_TOO_COMPLEX at w) is
 
-module _ {P : Type 0} {port : Ghosts P} (law : Lawful port) (room : ℕ) (name : List ℕ) (values : List Value) (at : Spot) (e : Engine) {p : P} (fits : port.fits (world e).last p) where
+module _ {P : Type 0} {port : Ghosts P} (law : Lawful port) (room : ℕ) (is_command : Bool) (name : List ℕ) (values : List Value) (at : Spot) (e : Engine) {p : P} (fits : port.fits (world e).last p) where
   abbrev by_name : Ran Outcome
-  by_name = called_by_name (runner_for do_bodies room) at false name values (world e)
+  by_name = called_by_name (runner_for do_bodies room) at is_command name values (world e)
 
   raised_so : (state : State) {o : Outcome} → by_name ≡ raised state at (world e) → Quiet (raised state at (world e)) o e e → Done port by_name o e e p p
   raised_so state is quiet = acted law (becomes law (start law by_name e p fits) is) quiet
 
   -- there is none
-  pub none_called : {o : Outcome} → CallsIt None name values (world e) → Quiet (raised INTERNAL_ERROR at (world e)) o e e → Done port by_name o e e p p
+  pub none_called : {o : Outcome} → CallsIt is_command None name values (world e) → Quiet (raised INTERNAL_ERROR at (world e)) o e e → Done port by_name o e e p p
   none_called calls quiet = raised_so INTERNAL_ERROR (calls (runner_for do_bodies room) at) quiet
 
-  pub none_deeper : (found : Found) {o : Outcome} → CallsIt (Some found) name values (world e) → nat_lt (length (world e).below) most_calls ≡ false → Quiet (raised STATEMENT_TOO_COMPLEX at (world e)) o e e → Done port by_name o e e p p
+  pub none_deeper : (found : Found) {o : Outcome} → CallsIt is_command (Some found) name values (world e) → nat_lt (length (world e).below) most_calls ≡ false → Quiet (raised STATEMENT_TOO_COMPLEX at (world e)) o e e → Done port by_name o e e p p
   none_deeper found calls deep quiet = raised_so STATEMENT_TOO_COMPLEX (calls.2 (runner_for do_bodies room) at ∙ too_deep (runner_for do_bodies room) calls.0 values at (world e) deep) quiet
 
-  pub one_called : (found : Found) {o : Outcome} {new : Engine} {q : P} (calls : CallsIt (Some found) name values (world e)) → nat_lt (length (world e).below) most_calls ≡ true
+  pub one_called : (found : Found) {o : Outcome} {new : Engine} {q : P} (calls : CallsIt is_command (Some found) name values (world e)) → nat_lt (length (world e).below) most_calls ≡ true
       → Done port (and_then (run_within do_bodies room (body calls.0.body) (entered calls.0 values (world e))) (left calls.0)) o e new p q → Done port by_name o e new p q
   one_called found {o} {new} {q} calls deep d =
       subst (λ (ran : Ran Outcome). Done port ran o e new p q) (sym (calls.2 (runner_for do_bodies room) at ∙ called_is (runner_for do_bodies room) calls.0 values at (world e) deep)) d
@@ -149,8 +140,8 @@ untyped to v state at e o is quiet = subst (λ (a : Answer). Quiet (settled a at
 
 -- ---- the routine of a name
 
-pub found_named : (routine : Routine) (name : List ℕ) (values : List Value) (w : World) → routine_named name (routines_in w.database.objects) ≡ Some routine → can_be_called false values routine ≡ true → (r : Runner) (at : Spot)
-    → called_by_name r at false name values w ≡ called r (callee_of false routine) values at w
-found_named routine name values w is can r at =
-    ap (λ (o : Option Routine). called_if o false r values at w) is
-    ∙ ap (λ (b : Bool). if b then called r (callee_of false routine) values at w else raised INTERNAL_ERROR at w) can
+pub found_named : (is_command : Bool) (routine : Routine) (name : List ℕ) (values : List Value) (w : World) → routine_named name (routines_in w.database.objects) ≡ Some routine → can_be_called is_command values routine ≡ true → (r : Runner) (at : Spot)
+    → called_by_name r at is_command name values w ≡ called r (callee_of is_command routine) values at w
+found_named is_command routine name values w is can r at =
+    ap (λ (o : Option Routine). called_if o is_command r values at w) is
+    ∙ ap (λ (b : Bool). if b then called r (callee_of is_command routine) values at w else raised INTERNAL_ERROR at w) can

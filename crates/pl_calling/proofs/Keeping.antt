@@ -4,9 +4,9 @@ use Rattle.pl_base.specs.declared.fail.Fail.{Fail}
 use Rattle.pl_base.specs.declared.state.State.{State}
 use Rattle.pl_base.specs.declared.value.Value.{Value}
 use Rattle.pl_calling.specs.Ends.{EndsAs, Still, error_of, settles}
-use Rattle.pl_calling.specs.Standing.{Sound, Standing, answered_by, behind_call, calls_kept, fresh, keep, kept_in, standing}
+use Rattle.pl_calling.specs.Standing.{Sound, Standing, answered_by, behind_call, calls_kept, fresh, keep, standing}
 use Rattle.pl_engine.proofs.Joins.{outward-append, stepped_in-append}
-use Rattle.pl_engine.specs.Engines.{stepped_in}
+use Rattle.pl_engine.specs.Engines.{Kept, stepped_in}
 use Rattle.pl_engine.specs.Holding.{HoldsMore, said}
 use Rattle.pl_engine.specs.Texts.{do_bodies}
 use Rattle.pl_meaning.specs.Trace as trace
@@ -132,9 +132,9 @@ module _ (begin old new : World) (held held' : List (List ℕ)) (failure : Optio
   call_continue to is = answered_so (outcome.Continue to) is ∙ ap (λ (s : Standing). got void s) (left_so None)
 
 -- the engine is sound behind a call that ended
-pub sound_on : (begin old new : World) (can : Type 0) (held held' : List (List ℕ)) (es : List trace.Event) (steps room : ℕ) (lost : Bool) → lost ≡ false → Sound begin can lost old room → HoldsMore es held held' → new.last ≡ last_commit es old.last
-    → old.steps ≡ new.steps + steps → kept_in new ≡ kept_in old → Sound begin can lost new room
-sound_on begin old new can held held' es steps room lost fine s more last spent keeps = record {
+pub sound_on : (begin old new : World) (stays keeps_old keeps_new : Kept) (can : Type 0) (held held' : List (List ℕ)) (es : List trace.Event) (steps room : ℕ) (lost : Bool) → lost ≡ false → Sound begin stays can lost old keeps_old room → HoldsMore es held held' → new.last ≡ last_commit es old.last
+    → old.steps ≡ new.steps + steps → keeps_new ≡ keeps_old → Sound begin stays can lost new keeps_new room
+sound_on begin old new stays keeps_old keeps_new can held held' es steps room lost fine s more last spent keeps = record {
   room = s.room;
   runs = s.runs;
   last = λ is. last ∙ (nothing_committed held held' es old.last more ∙ s.last is);
@@ -143,8 +143,8 @@ sound_on begin old new can held held' es steps room lost fine s more last spent 
 }
 
 -- nothing is said of one that stopped
-pub sound_lost : (begin old new : World) (can : Type 0) (lost : Bool) (room : ℕ) → Sound begin can lost old room → Sound begin can true new room
-sound_lost begin old new can lost room s = record {
+pub sound_lost : (begin old new : World) (stays keeps_old keeps_new : Kept) (can : Type 0) (lost : Bool) (room : ℕ) → Sound begin stays can lost old keeps_old room → Sound begin stays can true new keeps_new room
+sound_lost begin old new stays keeps_old keeps_new can lost room s = record {
   room = s.room;
   runs = s.runs;
   last = λ is. absurd cc;
@@ -154,15 +154,15 @@ sound_lost begin old new can lost room s = record {
 
 -- ---- where an evaluation begins
 
-pub sound_at_start : (begin w : World) (can : Type 0) (room : ℕ) → begin ≡ w → w.steps ≤ room → can → Sound begin can false w room
-sound_at_start begin w can room is less runs =
+pub sound_at_start : (begin w : World) (stays keeps_now : Kept) (can : Type 0) (room : ℕ) → begin ≡ w → stays ≡ keeps_now → w.steps ≤ room → can → Sound begin stays can false w keeps_now room
+sound_at_start begin w stays keeps_now can room is same_kept less runs =
     let same : begin.steps ≡ w.steps = ap (λ (b : World). b.steps) is in
     record {
       room = omega (arith, same, less);
       runs = runs;
       last = λ _. ap (λ (b : World). b.last) (sym is);
       steps = λ _. omega (arith, same);
-      keeps = λ _. ap (λ (b : World). kept_in b) (sym is);
+      keeps = λ _. sym same_kept;
     }
 
 pub fresh_at_start : (begin w : World) (at : Spot) (room : ℕ) → begin ≡ w → standing begin w [] None at room ≡ fresh at room w

@@ -1,5 +1,6 @@
-mod Entered
+pub mod Entered
 mod Keeping
 mod Named
 mod Overs
+pub mod Settled
 mod Telling

@@ -1,28 +1,33 @@
 -- What is read over what is kept of a state was read over the whole of it.
-use Rattle.std.proofs.Common.{◌≡◌, ℕ, List, [], ◌∷◌, Result, subst}
+use Rattle.std.proofs.Common.{◌≡◌, ℕ, List, [], ◌∷◌, Result, map, refl, subst}
+use Rattle.std.specs.List.{AllZip}
 use Rattle.pl_base.specs.declared.value.Value.{Value}
 use Rattle.pl_calling.proofs.Keeping.{calls_agree}
+use Rattle.pl_calling.specs.Reading.{no_rows}
 use Rattle.pl_calling.specs.Standing.{Standing, calls_kept, fresh, keep}
 use Rattle.pl_engine.specs.Texts.{do_bodies}
 use Rattle.pl_journal.specs.Rows.{tables_of}
 use Rattle.pl_meaning.specs.Selection.{last_of}
+use Rattle.pl_natural.proofs.Parts.{values_agree}
 use Rattle.pl_natural.proofs.Rows.{rows_agree}
 use Rattle.pl_natural.proofs.Told.{told}
 use Rattle.pl_natural.proofs.Values.{value_agrees}
-use Rattle.pl_natural.specs.Kept.{CallsAgree, ReadsKept, SubsAgree}
-use Rattle.pl_query.specs.Query.{rows}
+use Rattle.pl_natural.specs.Kept.{CallsAgree, PartsAgree, ReadsKept, SubsAgree, kept}
+use Rattle.pl_query.specs.Query.{rows, rows_before}
 use Rattle.pl_query.specs.Sources.{Tables}
+use Rattle.pl_resolved.specs.declared.expression.RExpr.{RExpr}
 use Rattle.pl_resolved.specs.declared.query.RQuery.{RQuery}
 use Rattle.pl_scope.specs.declared.resolve.ResolvedExpr.{ResolvedExpr}
 use Rattle.pl_value.specs.Answers.{Reads}
-use Rattle.pl_value.specs.Frames.{Row}
-use Rattle.pl_value.specs.Meaning.{Sub, value}
+use Rattle.pl_value.specs.Frames.{Frame, Row}
+use Rattle.pl_value.specs.Meaning.{Sub, value, values}
 use Rattle.pl_value.specs.Reading.{Reading}
 use Rattle.pl_value.specs.declared.operand.Unsettled.{Unsettled}
-use Rattle.pl_world.specs.Calls.{calls}
+use Rattle.pl_world.specs.Calls.{Within, calls}
 use Rattle.pl_world.specs.Errors.{Spot}
 use Rattle.pl_world.specs.Expressions.{begun, inner, rows_over, value_over}
 use Rattle.pl_world.specs.Statements.{runner_for}
+use Rattle.pl_world.specs.Transactions.{arguments_over}
 use Rattle.pl_world.specs.Variables.{row_of}
 use Rattle.pl_world.specs.World.{World}
 
@@ -54,3 +59,26 @@ module _ (at : Spot) (room : ℕ) where
         (subst (λ (f : Sub Standing). Reads (f (last_of queries) (row ∷ []) s) answer left) same reads)) in
         told (keep at room) (rows_over (runner_for do_bodies room) at queries w) answer left
         (subst (λ (r : Reading Standing (List Row)). Reads r answer left) (inside_agree queries (tables_of w.database.tables) (last_of queries) (row_of w.frame ∷ []) (begun w)) there)
+
+  -- ---- arguments, in which no query stands
+
+  none_inside : (tables : Tables) (query : ℕ) (frame : Frame) (x : Within) → no_rows query frame (keep at room x) ≡ kept (keep at room) (rows (calls (runner_for do_bodies room) at) [] tables query frame x)
+  unfolding rows_before
+  none_inside tables query frame x = refl
+
+  each_agrees : (w : World) (list : List RExpr) → AllZip (PartsAgree (keep at room)) (map (value (calls (runner_for do_bodies room) at) (inner (runner_for do_bodies room) at [] w)) list) (map (value calls_kept no_rows) list)
+  each_agrees w [] = tt
+  each_agrees w (e ∷ es) = (
+    value_agrees (keep at room) (calls (runner_for do_bodies room) at) calls_kept agree (inner (runner_for do_bodies room) at [] w) no_rows (none_inside (tables_of w.database.tables)) e,
+    each_agrees w es,
+  )
+
+  pub values_told : (w : World) (row : Row) (s : Standing) → s ≡ fresh at room w → (list : List RExpr) (answer : Result (List Value) Unsettled) (left : Standing) → row ≡ row_of w.frame
+      → Reads (values (map (value calls_kept no_rows) list) [] (row ∷ []) s) answer left → ReadsKept (keep at room) (arguments_over (runner_for do_bodies room) at list w) answer left
+  values_told w row s begins list answer left is reads =
+      let there : Reads (values (map (value calls_kept no_rows) list) [] (row_of w.frame ∷ []) (fresh at room w)) answer left =
+      subst (λ (r : Row). Reads (values (map (value calls_kept no_rows) list) [] (r ∷ []) (fresh at room w)) answer left) is
+      (subst (λ (t : Standing). Reads (values (map (value calls_kept no_rows) list) [] (row ∷ []) t) answer left) begins reads) in
+      told (keep at room) (arguments_over (runner_for do_bodies room) at list w) answer left
+      (subst (λ (r : Reading Standing (List Value)). Reads r answer left)
+      (values_agree (keep at room) (map (value (calls (runner_for do_bodies room) at) (inner (runner_for do_bodies room) at [] w)) list) (map (value calls_kept no_rows) list) (each_agrees w list) [] (row_of w.frame ∷ []) (begun w)) there)

@@ -1,10 +1,12 @@
 -- Expressions and queries within statements, as they are answered.
-use Rattle.std.specs.Prelude.{List, ◌++◌, Result, Ok, Err}
+use Rattle.std.specs.Prelude.{List, [], ◌++◌, Result, Ok, Err}
 use Rattle.pl_base.specs.declared.fail.Fail.{Fail}
 use Rattle.pl_engine.specs.Asks.{returned}
 use Rattle.pl_resolved.specs.declared.query.RQuery.{RQuery}
 use Rattle.pl_scope.specs.declared.resolve.ResolvedExpr.{ResolvedExpr}
 use Rattle.pl_value.specs.Frames.{Row}
+use Rattle.pl_value.specs.Meaning.{Sub}
+use Rattle.pl_value.specs.Reading.{got}
 use Rattle.pl_world.specs.Errors.{Spot}
 use Rattle.pl_world.specs.Expressions.{read, reads, rows_over, value_over}
 use Rattle.pl_world.specs.Running.{Runner}
@@ -19,3 +21,7 @@ read_beside r at e beside w = read (value_over r at e (row_of w.frame ++ beside)
 -- the rows of a query, or the error
 abbrev pub rows_read : Runner → Spot → List RQuery → World → Ran (Result (List Row) Fail)
 rows_read r at queries w = reads Err (rows_over r at queries w) at (λ rows w. ends (Ok rows) w)
+
+-- no query stands inside
+abbrev pub no_rows : {W : Type 0} → Sub W
+no_rows query frame w = got [] w

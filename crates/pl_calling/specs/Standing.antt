@@ -1,5 +1,5 @@
 -- What is kept of a state within an evaluation, and the calls of routines over it.
-use Rattle.std.specs.Prelude.{◌≡◌, ◌≤◌, ◌+◌, ◌-◌, ℕ, Bool, false, List, ◌++◌, Option, Some}
+use Rattle.std.specs.Prelude.{◌≡◌, ◌≤◌, ◌+◌, ◌-◌, ℕ, Bool, false, List, [], ◌++◌, Option, Some}
 use Rattle.std.specs.Prelude.{None}
 use Rattle.pl_base.specs.declared.fail.Fail.{Fail}
 use Rattle.pl_base.specs.declared.value.Value.{Value}
@@ -79,25 +79,19 @@ standing begin now held failure at room = record {
   room = room;
 }
 
--- what an evaluation leaves as it was
-abbrev pub kept_in : World → Kept
-kept_in w = record {
-  below = w.below;
-  depth = w.depth;
-  in_block = w.in_block;
-  changing = w.changing;
-}
-
 -- There is room for the steps, and bodies may be run. Unless a call stopped, nothing was committed,
--- no step was given, and calls are gone.
-pub record Sound (begin : World) (can : Type 0) (is_lost : Bool) (now : World) (limit : ℕ)
-    : Type 0 where
+-- no step was given, and what each statement leaves as it was is as it was.
+pub record Sound (begin : World) (stays : Kept) (can : Type 0) (is_lost : Bool) (now : World)
+    (keeps_now : Kept) (limit : ℕ) : Type 0 where
   pub room : begin.steps ≤ limit
   pub runs : can
   pub last : is_lost ≡ false → now.last ≡ begin.last
   pub steps : is_lost ≡ false → now.steps ≤ begin.steps
-  pub keeps : is_lost ≡ false → kept_in now ≡ kept_in begin
+  pub keeps : is_lost ≡ false → keeps_now ≡ stays
 
--- some world, where none is picked
+-- some world, and what is left as it was, where none are picked
 abbrev pub nowhere : World
 nowhere = new_world empty
+
+abbrev pub nothing : Kept
+nothing = record { below = []; marks = []; in_block = false; changing = [] }

@@ -18,7 +18,7 @@ use pl_engine::{BodyRunner, Engine, Held, Port, Spot, Stop};
 use pl_world::Outcome;
 
 /// So many calls run at the most.
-const MOST_CALLS: usize = 64;
+pub const MOST_CALLS: usize = 64;
 
 // What a function without a result gives.
 pub(crate) fn void(engine: &Engine) -> Value
@@ -51,12 +51,7 @@ fn not_returned(engine: &Engine, ty: Option<Ty>, at: Spot) -> Outcome
 
 /// What a body gives that has ended so.
 #[tactic(auto, using(crate::proofs::Entered::given_exit, crate::proofs::Entered::given_continue))]
-pub(crate) fn given(
-    engine: &Engine,
-    ty: Option<Ty>,
-    at: Spot,
-    end: Outcome,
-) -> Result<Outcome, Memory>
+pub fn given(engine: &Engine, ty: Option<Ty>, at: Spot, end: Outcome) -> Result<Outcome, Memory>
     ensures { IfOk result (λ o. Quiet (spec.given ty end at (world engine.now)) o
         engine.now engine.now) }
 {
@@ -80,7 +75,7 @@ fn run_found<R: BodyRunner>(
 ) -> Result<Outcome, Stop>
     requires can { R.runs bodies.now room }
     requires room { (world engine.old).steps ≤ room }
-    ensures is { (c : spec.Callee) → IsCallee found c → IfOk result (λ o. Done ⟦<Held as Port>⟧
+    ensures is { (c : spec.Callee) → IsCallee false found c → IfOk result (λ o. Done ⟦<Held as Port>⟧
         (and_then (run_within do_bodies room (body c.body)
         (spec.entered c values (world engine.old))) (spec.left c)) o
         engine.old engine.new held.old held.new) }
@@ -121,7 +116,7 @@ pub(crate) fn call_function<R: BodyRunner>(
         (world engine.old)) o engine.old engine.new held.old held.new) }
     ensures keeps { OnOk result (kept engine.new ≡ kept engine.old) }
 {
-    match find(&*engine, name, values.as_slice())? {
+    match find(&*engine, false, name, values.as_slice())? {
         None => Ok(engine.raise(State::INTERNAL_ERROR, at)),
         Some(found) => {
             if engine.calls() < MOST_CALLS {

@@ -1,6 +1,6 @@
-//! The function that a call names.
+//! The routine that a call names.
 
-ghost use Rattle.std.specs.Prelude.{◌≡◌, false, IfOk};
+ghost use Rattle.std.specs.Prelude.{◌≡◌, Bool, IfOk};
 ghost use Rattle.pl_calling.specs.Called.{CallsIt, IsCallee};
 ghost use Rattle.pl_engine.specs.Engines.{world};
 ghost use Rattle.pl_world.specs.Calls as spec;
@@ -12,10 +12,10 @@ use pl_engine::Engine;
 use pl_tree::{ResultType, RoutineKind};
 use std::alloc::{AllocError, Global};
 
-/// A function that is called. Its body is that of the moment of the call, whatever becomes of the
-/// function while it runs.
+/// A routine that is called. Its body is that of the moment of the call, whatever becomes of the
+/// routine while it runs.
 #[derive(Drop)]
-pub(crate) struct Found {
+pub struct Found {
     pub routine: Name,
     /// What names mean when the call is entered.
     pub declared: Static,
@@ -45,18 +45,28 @@ fn result_type(returns: &ResultType) -> Option<Ty>
     }
 }
 
-// It can be called inside of an expression with so many values.
-fn can_be_called(values: &[Value], routine: &Routine) -> bool
-    ensures { result ≡ spec.can_be_called false values.now routine.now }
+// A procedure is called by CALL, which is a command, and a function inside of an expression.
+fn is_called_by(is_command: bool, kind: RoutineKind) -> bool
+    ensures { result ≡ spec.is_called_by is_command kind }
 {
-    match routine.heading.kind {
-        RoutineKind::Function => values.len() == routine.heading.params.len(),
-        RoutineKind::Procedure => false,
+    match (is_command, kind) {
+        (true, RoutineKind::Procedure) => true,
+        (true, RoutineKind::Function) => false,
+        (false, RoutineKind::Procedure) => false,
+        (false, RoutineKind::Function) => true,
     }
 }
 
+// It can be called so, with so many values.
+fn can_be_called(is_command: bool, values: &[Value], routine: &Routine) -> bool
+    ensures { result ≡ spec.can_be_called is_command values.now routine.now }
+{
+    is_called_by(is_command, routine.heading.kind) && values.len() == routine.heading.params.len()
+}
+
 fn hold(alloc: Global, routine: &Routine) -> Result<Found, AllocError>
-    ensures { IfOk result (λ found. IsCallee found (spec.callee_of false routine.now)) }
+    ensures { IfOk result (λ found. (is_command : Bool)
+        → IsCallee is_command found (spec.callee_of is_command routine.now)) }
 {
     let result = result_type(&routine.heading.result);
     let params = routine.heading.params.as_slice();
@@ -69,18 +79,21 @@ fn hold(alloc: Global, routine: &Routine) -> Result<Found, AllocError>
     })
 }
 
-/// The function of this name, if it can be called with so many values.
-pub(crate) fn find(
+/// The routine of this name, if it can be called with so many values: a procedure by a command, and
+/// a function inside of an expression.
+pub fn find(
     engine: &Engine,
+    is_command: bool,
     name: Name,
     values: &[Value],
 ) -> Result<Option<Found>, AllocError>
-    ensures { IfOk result (λ found. CallsIt found name values.now (world engine.now)) }
+    ensures { IfOk result (λ found.
+        CallsIt is_command found name values.now (world engine.now)) }
 {
     match engine.journal().catalog().routine(name) {
         None => Ok(None),
         Some(routine) => {
-            if can_be_called(values, routine) {
+            if can_be_called(is_command, values, routine) {
                 Ok(Some(hold(engine.alloc(), routine)?))
             } else {
                 Ok(None)

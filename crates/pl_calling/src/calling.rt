@@ -2,7 +2,7 @@
 
 ghost use Rattle.std.specs.Prelude.{◌≡◌, ◌≤◌};
 ghost use Rattle.pl_calling.specs.Standing.{fresh};
-ghost use Rattle.pl_engine.specs.Engines.{world};
+ghost use Rattle.pl_engine.specs.Engines.{kept, world};
 
 use crate::bodies::{call_function, void};
 use crate::start::Start;
@@ -36,7 +36,7 @@ impl<'r, B: Start, R: BodyRunner> Model for Calling<'r, B, R> {
     ghost use Rattle.pl_base.specs.contracts.value.Value as value;
     ghost use Rattle.pl_catalog.specs.contracts.object.Object as object;
     ghost use Rattle.pl_calling.specs.Standing.{Sound, Standing, standing};
-    ghost use Rattle.pl_engine.specs.Engines.{world};
+    ghost use Rattle.pl_engine.specs.Engines.{kept, world};
 
     ghost Value = { Standing };
 
@@ -44,14 +44,15 @@ impl<'r, B: Start, R: BodyRunner> Model for Calling<'r, B, R> {
 
     ghost view = { λ c. standing B.begin (world c.engine) c.held c.failure c.at c.room };
 
-    ghost invariant = { λ c. Sound B.begin (R.runs c.bodies.now c.room) c.is_lost
-        (world c.engine) c.room };
+    ghost invariant = { λ c. Sound B.begin B.stays (R.runs c.bodies.now c.room) c.is_lost
+        (world c.engine) (kept c.engine) c.room };
 }
 
 impl<'r, B: Start, R: BodyRunner> Calling<'r, B, R> {
     /// It takes the engine.
     pub(crate) fn begin(calls: &Calls<'r, R>, engine: &mut Engine, at: Spot) -> Calling<'r, B, R>
         requires begins { B.begin ≡ world engine.old }
+        requires stays { B.stays ≡ kept engine.old }
         requires room { (world engine.old).steps ≤ calls.now.room }
         requires runs { R.runs calls.now.bodies.now calls.now.room }
         ensures { result ≡ fresh at calls.now.room (world engine.old) }

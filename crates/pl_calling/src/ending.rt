@@ -2,7 +2,7 @@
 
 ghost use Rattle.std.specs.Prelude.{◌≡◌, [], ◌∷◌, ℕ, IfOk, OnOk};
 ghost use Rattle.pl_calling.specs.Ends.{EndsAs, Tells, error_of, settles};
-ghost use Rattle.pl_calling.specs.Standing.{Standing, keep, kept_in};
+ghost use Rattle.pl_calling.specs.Standing.{Standing, keep};
 ghost use Rattle.pl_engine.specs.Answers.{Answers};
 ghost use Rattle.pl_engine.specs.Engines.{kept, world};
 ghost use Rattle.pl_engine.specs.Holding.{said};
@@ -89,7 +89,7 @@ pub(crate) fn finish<'r, B: Start, P: Port, R: BodyRunner, A: Drop>(
         → P.fits B.begin.last port.old
         → ReadsKept (keep at room) reading answer calling.entry
         → Answers P.Port (settles reading at) result old engine.new port.old port.new }
-    ensures keeps { OnOk result (kept engine.new ≡ kept_in B.begin) }
+    ensures keeps { OnOk result (kept engine.new ≡ B.stays) }
 {
     let Calling {
         engine: back,

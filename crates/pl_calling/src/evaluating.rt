@@ -33,6 +33,7 @@ fn value_with_calls<B: Start, P: Port, R: BodyRunner>(
     beside: &[Value],
 ) -> Result<Result<Value, Fail>, Stop>
     requires begins { B.begin ≡ world engine.old }
+    requires stays { B.stays ≡ kept engine.old }
     requires room { (world engine.old).steps ≤ calls.now.room }
     requires fits { P.fits (world engine.old).last port.old }
     requires runs { R.runs calls.now.bodies.now calls.now.room }
@@ -60,6 +61,7 @@ fn value_of<B: Start, P: Port, R: BodyRunner>(
     beside: &[Value],
 ) -> Result<Result<Value, Fail>, Stop>
     requires begins { B.begin ≡ world engine.old }
+    requires stays { B.stays ≡ kept engine.old }
     requires room { (world engine.old).steps ≤ calls.now.room }
     requires fits { P.fits (world engine.old).last port.old }
     requires runs { R.runs calls.now.bodies.now calls.now.room }

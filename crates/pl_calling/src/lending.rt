@@ -1,10 +1,12 @@
 //! What is read over the variables of a call.
 
-ghost use Rattle.std.specs.Prelude.{◌≡◌, [], ◌∷◌, ◌++◌, IfOk, OnOk};
+ghost use Rattle.std.specs.Prelude.{◌≡◌, [], ◌∷◌, ◌++◌, map, IfOk, OnOk};
+ghost use Rattle.pl_calling.specs.Reading.{no_rows};
 ghost use Rattle.pl_engine.specs.Engines.{world};
 ghost use Rattle.pl_meaning.specs.Selection as spec;
 ghost use Rattle.pl_query.specs.Query.{rows};
 ghost use Rattle.pl_value.specs.Answers.{Reads};
+ghost use Rattle.pl_value.specs.Meaning as meaning;
 ghost use Rattle.pl_value.specs.Meaning.{value};
 ghost use Rattle.pl_world.specs.Variables.{row_of};
 
@@ -12,9 +14,9 @@ use pl_base::{Cells, List, Value};
 use pl_change::copy_row;
 use pl_engine::Engine;
 use pl_query::{Tables, evaluate, run};
-use pl_resolved::RQuery;
+use pl_resolved::{RExpr, RQuery};
 use pl_scope::ResolvedExpr;
-use pl_value::{Caller, Lent, Unsettled};
+use pl_value::{Caller, Lent, NoQueries, Unsettled, values};
 use std::alloc::{AllocError, Global};
 
 /// The value of an expression over one row.
@@ -57,6 +59,20 @@ pub(crate) fn rows_over<C: Caller, T: Tables>(
     let frame = [Lent { cells: row }];
     let last = last_of(queries);
     run(alloc, queries.as_slice(), tables, last, &frame, caller)
+}
+
+/// The values of expressions in which no query stands, over one row, from left to right.
+pub(crate) fn values_over<C: Caller>(
+    alloc: Global,
+    list: &[RExpr],
+    row: &[Value],
+    caller: &mut C,
+) -> Result<List<Value>, Unsettled>
+    ensures { Reads (meaning.values (map (value C.calls no_rows) list.now) [] (row.now ∷ [])
+        caller.old) result caller.new }
+{
+    let frame = [Lent { cells: row }];
+    values(alloc, list, &NoQueries, &frame, caller)
 }
 
 /// The variables of the newest call, and further values behind them.

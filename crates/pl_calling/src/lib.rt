@@ -1,6 +1,7 @@
 //! Expressions and queries within statements, and the calls of routines in them.
 #![tactic(auto)]
 
+mod arguments;
 mod bodies;
 mod callee;
 mod calling;
@@ -13,6 +14,9 @@ mod querying;
 mod start;
 mod trial;
 
+pub use arguments::evaluate_all;
+pub use bodies::{MOST_CALLS, given};
+pub use callee::{Found, find};
 pub use converting::{as_type, convert, run_state};
 pub use evaluating::{evaluate, evaluate_beside};
 pub use querying::query;

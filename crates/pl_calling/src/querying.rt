@@ -28,6 +28,7 @@ fn rows_with_calls<B: Start, P: Port, R: BodyRunner>(
     queries: &List<RQuery>,
 ) -> Result<Result<List<Cells>, Fail>, Stop>
     requires begins { B.begin ≡ world engine.old }
+    requires stays { B.stays ≡ kept engine.old }
     requires room { (world engine.old).steps ≤ calls.now.room }
     requires fits { P.fits (world engine.old).last port.old }
     requires runs { R.runs calls.now.bodies.now calls.now.room }
@@ -54,6 +55,7 @@ fn rows_of<B: Start, P: Port, R: BodyRunner>(
     queries: &List<RQuery>,
 ) -> Result<Result<List<Cells>, Fail>, Stop>
     requires begins { B.begin ≡ world engine.old }
+    requires stays { B.stays ≡ kept engine.old }
     requires room { (world engine.old).steps ≤ calls.now.room }
     requires fits { P.fits (world engine.old).last port.old }
     requires runs { R.runs calls.now.bodies.now calls.now.room }

@@ -1,15 +1,22 @@
-//! The world in which an evaluation begins.
+//! How an evaluation begins.
 
-ghost use Rattle.pl_calling.specs.Standing.{nowhere};
+ghost use Rattle.pl_calling.specs.Standing.{nothing, nowhere};
+ghost use Rattle.pl_engine.specs.Engines.{Kept};
 ghost use Rattle.pl_world.specs.World.{World};
 
 use std::marker::Brand;
 
-/// The world in which an evaluation begins. It stands in proofs alone: who evaluates picks it.
+/// How an evaluation begins. It stands in proofs alone: who evaluates picks it.
 pub(crate) trait Start {
+    /// The world in which it begins.
     ghost begin: { World };
+
+    /// What it leaves as it was.
+    ghost stays: { Kept };
 }
 
 impl Start for Brand {
     ghost begin = { nowhere };
+
+    ghost stays = { nothing };
 }

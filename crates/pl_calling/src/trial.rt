@@ -7,13 +7,14 @@ ghost use Rattle.pl_engine.specs.Engines.{world};
 ghost use Rattle.pl_engine.specs.Texts.{do_bodies};
 ghost use Rattle.pl_world.specs.Expressions as spec;
 ghost use Rattle.pl_world.specs.Statements.{runner_for};
+ghost use Rattle.pl_world.specs.Transactions.{arguments_over};
 ghost use Rattle.pl_world.specs.Variables.{row_of};
 
-use crate::lending::{row_beside, rows_over, value_over};
+use crate::lending::{row_beside, rows_over, value_over, values_over};
 use crate::start::Start;
 use pl_base::{Cells, List, Name, Value};
 use pl_engine::{Engine, Spot};
-use pl_resolved::RQuery;
+use pl_resolved::{RExpr, RQuery};
 use pl_scope::ResolvedExpr;
 use pl_value::{Caller, Unsettled};
 use std::alloc::Global;
@@ -138,6 +139,31 @@ pub(crate) fn try_rows<B: Start>(
         engine.values(),
         &mut trial,
     );
+    Tried {
+        answer,
+        is_reached: trial.is_reached,
+    }
+}
+
+/// The values of expressions in which no query stands.
+pub(crate) fn try_values<B: Start>(
+    room: u64,
+    engine: &Engine,
+    at: Spot,
+    list: &[RExpr],
+) -> Tried<List<Value>>
+    requires begins { B.begin ≡ world engine.now }
+    ensures { TriedAs at room
+        (arguments_over (runner_for do_bodies room) at list.now (world engine.now))
+        (world engine.now) result }
+{
+    let mut trial: Trial<B> = Trial {
+        at,
+        room,
+        is_reached: false,
+        of: PhantomData,
+    };
+    let answer = values_over(engine.alloc(), list, engine.values(), &mut trial);
     Tried {
         answer,
         is_reached: trial.is_reached,

@@ -1,5 +1,5 @@
 mod Goes
-mod Parts
+pub mod Parts
 mod Rolled
 pub mod Values
 mod Products

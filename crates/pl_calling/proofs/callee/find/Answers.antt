@@ -1,4 +1,4 @@
-use Rattle.std.proofs.Common.{◌≡◌, ◌∙◌, List, Some, ap, false, sym}
+use Rattle.std.proofs.Common.{◌≡◌, ◌∙◌, List, Some, ap, sym}
 use Rattle.pl_calling.proofs.Entered.{found_named}
 use Rattle.pl_calling.proofs.callee.find.Goals as goal
 use Rattle.pl_catalog.specs.Objects.{routine_named, routines_in}
@@ -11,4 +11,4 @@ pub returns-in_ok-hold-in-Some : goal.returns-in_ok-hold-in-Some
 returns-in_ok-hold-in-Some c =
     let named : routine_named c.args.name (routines_in (world c.args.engine.now).database.objects) ≡ Some c.in-Some.routine.now =
     ap (λ (os : List Object). routine_named c.args.name (routines_in os)) (sym (c.catalog.ensures ∙ ap (λ (db : Database). db.objects) c.journal.ensures.now)) ∙ sym c.in-Some.ensures in
-    (callee_of false c.in-Some.routine.now, c.in_ok-hold-in-Some.ensures, found_named c.in-Some.routine.now c.args.name c.args.values.now (world c.args.engine.now) named (sym c.can_be_called.ensures ∙ c.if-can_be_called.true))
+    (callee_of c.args.is_command c.in-Some.routine.now, c.in_ok-hold-in-Some.ensures c.args.is_command, found_named c.args.is_command c.in-Some.routine.now c.args.name c.args.values.now (world c.args.engine.now) named (sym c.can_be_called.ensures ∙ c.if-can_be_called.true))

@@ -1,0 +1,21 @@
+use Rattle.std.proofs.Common.{◌≡◌, ◌∙◌, refl, subst, sym}
+use Rattle.pl_calling.proofs.Overs.{values_told}
+use Rattle.pl_calling.proofs.arguments.values_with_calls.Goals as goal
+use Rattle.pl_engine.proofs.Joins.{before, lawful, refused}
+use Rattle.pl_engine.specs.Engines.{world}
+use Rattle.pl_engine.specs.Texts.{do_bodies}
+use Rattle.pl_world.specs.Statements.{runner_for}
+use Rattle.pl_world.specs.Transactions.{arguments_over}
+use Rattle.pl_world.specs.Variables.{row_of}
+use Rattle.pl_world.specs.World.{World}
+
+pub returns-in_err-row-clause-is : goal.returns-in_err-row-clause-is
+returns-in_err-row-clause-is g c = refused _ _ _ c.from_residual.ensures (before (lawful g.P.Port g.met.P.Port.none g.met.P.Port.joins g.met.P.Port.rises) refl)
+
+pub returns-clause-is : goal.returns-clause-is
+returns-clause-is g c =
+    let row : c.as_slice.result.now ≡ row_of (world c.args.engine.now).frame = c.as_slice.ensures ∙ (c.in_ok-row.ensures ∙ c.values.ensures) in
+    let reads = values_told c.args.at c.args.calls.now.room (world c.args.engine.now) c.as_slice.result.now c.begin-calling.result c.begin-calling.ensures
+    c.args.list.now c.values_over-answer.result c.values_over-answer.new.caller row c.values_over-answer.ensures in
+    c.finish.ensures.is (arguments_over (runner_for do_bodies c.args.calls.now.room) c.args.at c.args.list.now (world c.args.engine.now)) c.args.calls.now.room c.args.engine.now (sym c.requires.begins)
+    (subst (λ (w : World). g.P.Port.fits w.last c.args.port.now) (sym c.requires.begins) c.requires.fits) reads
