@@ -1,5 +1,5 @@
-//! `pl_costs MEASURE ROWS` makes one measure of a store in memory, and prints what it counted and how
-//! long it took. Without these words it makes each measure of a few rows, and prints no times.
+//! `pl_costs MEASURE ROWS` makes one measure of a store in memory, and prints what it counted and
+//! how long it took. Without these words it makes each measure of a few rows, and prints no times.
 #![tactic(auto)]
 
 mod maps;
