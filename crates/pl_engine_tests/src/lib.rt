@@ -1,5 +1,0 @@
-//! Tests of the engine's commits and what it says.
-#![tactic(auto)]
-
-#[cfg(test)]
-mod tests;
