@@ -14,6 +14,3 @@ pub use lending::Objects;
 pub use object::{
     Column, Events, Heading, Object, Routine, Rule, RuleKind, TableDef, TriggerDef, Which,
 };
-
-#[cfg(test)]
-mod tests;

@@ -5,8 +5,6 @@ mod input;
 mod operations;
 mod payload;
 mod storable;
-#[cfg(test)]
-mod tests;
 mod values;
 
 pub use operations::decode_all;

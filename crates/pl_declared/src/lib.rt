@@ -7,6 +7,3 @@ mod parameters;
 mod scopes;
 
 pub use scopes::Static;
-
-#[cfg(test)]
-mod tests;

@@ -6,8 +6,6 @@ mod depth;
 mod fail;
 mod lists;
 mod marks;
-#[cfg(test)]
-mod tests;
 mod tokens;
 
 pub use depth::{MAX_PARTS, deep};

@@ -10,6 +10,3 @@ pub use column::Column;
 pub use grouping::{place_of_row, place_of_value};
 pub use joined::Joined;
 pub use tally::Tally;
-
-#[cfg(test)]
-mod tests;

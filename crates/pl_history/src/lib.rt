@@ -8,6 +8,3 @@ mod cells;
 mod pairs;
 
 pub use pairs::Pairs;
-
-#[cfg(test)]
-mod tests;

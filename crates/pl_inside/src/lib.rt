@@ -6,6 +6,3 @@ mod reading;
 
 pub use asking::{any_has_query, has_query, if_has_query};
 pub use reading::tables_read;
-
-#[cfg(test)]
-mod tests;

@@ -7,6 +7,3 @@ mod order;
 
 pub use keys::{Keys, is_same};
 pub use order::{turned, value_or, value_order};
-
-#[cfg(test)]
-mod tests;

@@ -9,6 +9,3 @@ mod sorting;
 pub use cutting::{count_of, cut};
 pub use distinction::distinct;
 pub use sorting::sort;
-
-#[cfg(test)]
-mod tests;

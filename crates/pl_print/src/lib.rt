@@ -12,6 +12,3 @@ pub use grids::grid;
 pub use messages::{fail, notice};
 pub use reply::{Grid, Level, Tag};
 pub use tags::tag;
-
-#[cfg(test)]
-mod tests;

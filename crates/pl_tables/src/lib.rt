@@ -10,6 +10,3 @@ mod tables;
 pub use slots::Slot;
 pub use table::{Table, TableFail};
 pub use tables::Tables;
-
-#[cfg(test)]
-mod tests;

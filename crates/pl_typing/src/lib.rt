@@ -32,6 +32,3 @@ pub use typed::{
     Typed, as_text_type, coerced, head_of, headed, limited, truth, truth_of, with_type,
 };
 pub use unions::{Listed, in_list, picked};
-
-#[cfg(test)]
-mod tests;

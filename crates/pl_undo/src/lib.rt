@@ -5,6 +5,3 @@ mod database;
 mod store;
 
 pub use store::{Mark, Store};
-
-#[cfg(test)]
-mod tests;

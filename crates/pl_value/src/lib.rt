@@ -18,6 +18,3 @@ pub use expression::{passes, value, values};
 pub use operand::{Lent, Operand, Unsettled};
 pub use standing::{cell_at, leaf};
 pub use world::{Caller, NoQueries, NoRoutines, Subqueries};
-
-#[cfg(test)]
-mod tests;

@@ -4,6 +4,3 @@
 mod frames;
 
 pub use frames::{Frame, Frames};
-
-#[cfg(test)]
-mod tests;

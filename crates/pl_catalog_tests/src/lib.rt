@@ -1,0 +1,5 @@
+//! Tests of `pl_catalog`.
+#![tactic(auto)]
+
+#[cfg(test)]
+mod tests;

@@ -1,0 +1,5 @@
+//! Tests of `pl_codec`.
+#![tactic(auto)]
+
+#[cfg(test)]
+mod tests;

@@ -1,0 +1,5 @@
+//! Tests of `pl_declared`.
+#![tactic(auto)]
+
+#[cfg(test)]
+mod tests;

@@ -1,0 +1,5 @@
+//! Tests of `pl_grammar`.
+#![tactic(auto)]
+
+#[cfg(test)]
+mod tests;

@@ -1,0 +1,5 @@
+//! Tests of `pl_groups`.
+#![tactic(auto)]
+
+#[cfg(test)]
+mod tests;

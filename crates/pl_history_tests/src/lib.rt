@@ -1,0 +1,5 @@
+//! Tests of `pl_history`.
+#![tactic(auto)]
+
+#[cfg(test)]
+mod tests;

@@ -1,0 +1,5 @@
+//! Tests of `pl_inside`.
+#![tactic(auto)]
+
+#[cfg(test)]
+mod tests;

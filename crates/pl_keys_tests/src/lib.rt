@@ -1,0 +1,5 @@
+//! Tests of `pl_keys`.
+#![tactic(auto)]
+
+#[cfg(test)]
+mod tests;

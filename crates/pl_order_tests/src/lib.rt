@@ -1,0 +1,5 @@
+//! Tests of `pl_order`.
+#![tactic(auto)]
+
+#[cfg(test)]
+mod tests;

@@ -1,0 +1,5 @@
+//! Tests of `pl_print`.
+#![tactic(auto)]
+
+#[cfg(test)]
+mod tests;

@@ -1,0 +1,5 @@
+//! Tests of `pl_tables`.
+#![tactic(auto)]
+
+#[cfg(test)]
+mod tests;

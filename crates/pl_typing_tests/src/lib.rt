@@ -1,0 +1,5 @@
+//! Tests of `pl_typing`.
+#![tactic(auto)]
+
+#[cfg(test)]
+mod tests;

@@ -1,0 +1,5 @@
+//! Tests of `pl_undo`.
+#![tactic(auto)]
+
+#[cfg(test)]
+mod tests;

@@ -1,0 +1,5 @@
+//! Tests of `pl_value`.
+#![tactic(auto)]
+
+#[cfg(test)]
+mod tests;

@@ -1,0 +1,5 @@
+//! Tests of `pl_variables`.
+#![tactic(auto)]
+
+#[cfg(test)]
+mod tests;
