@@ -152,7 +152,7 @@ module _ {whole : Ran Outcome} (first : Ran Outcome) {old mid : Engine} (new : E
 
 -- ---- variables one after another
 
-front : {A : Type 0} (xs : List A) (i : ℕ) (x : A) → i < length xs → x ≡ get_or xs i x → drop i xs ≡ x ∷ drop (i + 1) xs
+pub front : {A : Type 0} (xs : List A) (i : ℕ) (x : A) → i < length xs → x ≡ get_or xs i x → drop i xs ≡ x ∷ drop (i + 1) xs
 front xs i x lt is = rw (add-one, drop-cons xs i x lt, ← is) refl
 
 -- each target with this value
@@ -205,16 +205,17 @@ module _ (at : Spot) where
   pub count_here : (e : Engine) (ts : List Target) (v : Value) → v ≡ Big (pos (world e).frame.row_count) → Quietly (diagnosed ts at (world e)) (put_each (with_count v ts) at (world e)) e e
   count_here e ts v is = quiet_becomes (quiet_start (diagnosed ts at (world e)) e) (count_is ts v (world e) is)
 
-  module _ {whole : Ran Outcome} {old mid : Engine} (ts : List Target) (v : Value) (i : ℕ) (way : Quietly whole (put_each (with_count v (drop i ts)) at (world mid)) old mid) where
-    each_here : (t : Target) → i < length ts → t ≡ get_or ts i t → Quietly whole (and_then (put_in t v at (world mid)) (on_next (each_next (with_count v (drop (i + 1) ts))))) old mid
-    each_here t lt is = quiet_becomes way (ap (λ (ys : List Target). put_each (with_count v ys) at (world mid)) (front ts i t lt is) ∙ each_cons t v (with_count v (drop (i + 1) ts)) (world mid))
+  -- things of a list, each of which gives a target and its value
+  module _ {A : Type 0} {whole : Ran Outcome} {old mid : Engine} (xs : List A) (of : A → Target × Value) (i : ℕ) (way : Quietly whole (put_each (map of (drop i xs)) at (world mid)) old mid) where
+    each_here : (a : A) → i < length xs → a ≡ get_or xs i a → Quietly whole (and_then (put_in (of a).0 (of a).1 at (world mid)) (on_next (each_next (map of (drop (i + 1) xs))))) old mid
+    each_here a lt is = quiet_becomes way (ap (λ (ys : List A). put_each (map of ys) at (world mid)) (front xs i a lt is) ∙ each_cons (of a).0 (of a).1 (map of (drop (i + 1) xs)) (world mid))
 
-    module _ (t : Target) (lt : i < length ts) (is : t ≡ get_or ts i t) (new : Engine) (o : Outcome) (q : Quiet (put_in t v at (world mid)) o mid new) where
-      pub each_on : o ≡ outcome.Next → Quietly whole (put_each (with_count v (drop (i + 1) ts)) at (world new)) old new
-      each_on next = quiet_next (put_in t v at (world mid)) new (each_next (with_count v (drop (i + 1) ts))) (each_here t lt is) o q next
+    module _ (a : A) (lt : i < length xs) (is : a ≡ get_or xs i a) (new : Engine) (o : Outcome) (q : Quiet (put_in (of a).0 (of a).1 at (world mid)) o mid new) where
+      pub each_on : o ≡ outcome.Next → Quietly whole (put_each (map of (drop (i + 1) xs)) at (world new)) old new
+      each_on next = quiet_next (put_in (of a).0 (of a).1 at (world mid)) new (each_next (map of (drop (i + 1) xs))) (each_here a lt is) o q next
 
       pub each_off : o ≢ outcome.Next → Quiet whole o old new
-      each_off other = quiet_off (put_in t v at (world mid)) new (each_next (with_count v (drop (i + 1) ts))) (each_here t lt is) o q other
+      each_off other = quiet_off (put_in (of a).0 (of a).1 at (world mid)) new (each_next (map of (drop (i + 1) xs))) (each_here a lt is) o q other
 
-    pub each_end : length ts ≤ i → Quiet whole outcome.Next old mid
-    each_end le = quiet_done outcome.Next mid (quiet_becomes way (ap (λ (ys : List Target). put_each (with_count v ys) at (world mid)) (drop_of_length-le ts le) ∙ each_nil (world mid))) (quiet_end outcome.Next mid)
+    pub each_end : length xs ≤ i → Quiet whole outcome.Next old mid
+    each_end le = quiet_done outcome.Next mid (quiet_becomes way (ap (λ (ys : List A). put_each (map of ys) at (world mid)) (drop_of_length-le xs le) ∙ each_nil (world mid))) (quiet_end outcome.Next mid)

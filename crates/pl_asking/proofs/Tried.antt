@@ -1,5 +1,6 @@
 -- The arms of a CASE with an operand.
-use Rattle.std.proofs.Common.{◌≡◌, ◌<◌, ◌≤◌, ◌+◌, ◌∙◌, ℕ, Bool, List, [], ◌∷◌, ◌++◌, Option, Some, add-one, ap, drop, drop-cons, drop_of_length-le, get_or, if◌then◌else◌, length, refl, sym}
+use Rattle.std.proofs.Common.{◌≡◌, ◌<◌, ◌≤◌, ◌+◌, ◌∙◌, ℕ, Bool, List, [], ◌∷◌, ◌++◌, Option, Some, ap, drop, drop_of_length-le, get_or, if◌then◌else◌, length, refl, sym}
+use Rattle.pl_asking.proofs.Acts.{front}
 use Rattle.pl_asking.proofs.Valued.{evaluated_is, on_value}
 use Rattle.pl_asking.specs.Values.{read_match}
 use Rattle.pl_calling.specs.Reading.{read_beside}
@@ -28,9 +29,6 @@ use Rattle.pl_world.specs.Running.{Runner, all}
 use Rattle.pl_world.specs.Variables.{row_of}
 use Rattle.pl_world.specs.World.{Ran, World, and_then}
 use Rattle.pl_world.specs.declared.outcome.Outcome.{Outcome}
-
-front : {A : Type 0} (xs : List A) (i : ℕ) (x : A) → i < length xs → x ≡ get_or xs i x → drop i xs ≡ x ∷ drop (i + 1) xs
-front xs i x lt is = rw (add-one, drop-cons xs i x lt, ← is) refl
 
 abbrev pub beside_it : Runner → Spot → Row → World → ResolvedExpr → Ran Outcome
 beside_it r at operand w x = read_beside r at x operand w

@@ -22,7 +22,7 @@ pub use cases::case_operand;
 pub use conditions::{bound, test};
 pub use converting::raise_in_run;
 pub use declaring::declare;
-pub use placing::{diagnose, put_all};
+pub use placing::{diagnose, put_all, put_at};
 pub use resolving::{aim, aim_all};
 pub use values::{returns, value};
 pub use variable::Variable;

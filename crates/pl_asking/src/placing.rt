@@ -109,8 +109,8 @@ pub fn put_all(
 
 // ---- GET DIAGNOSTICS
 
-// A value goes into the variable that a target names.
-fn put_at(engine: &mut Engine, at: Spot, target: &Target, v: &Value) -> Result<Outcome, Memory>
+/// A value goes into the variable that a target names.
+pub fn put_at(engine: &mut Engine, at: Spot, target: &Target, v: &Value) -> Result<Outcome, Memory>
     ensures is { IfOk result (λ o. Quiet (put_in target.now v.now at (world engine.old)) o
         engine.old engine.new) }
     ensures keeps { kept engine.new ≡ kept engine.old }
