@@ -1,0 +1,14 @@
+//! Queries as statements of bodies: PERFORM, SELECT INTO, and a query whose rows have nowhere to
+//! go.
+#![tactic(auto)]
+
+mod filling;
+mod performing;
+mod queries;
+mod refusing;
+mod resolving;
+mod selecting;
+
+pub use filling::into;
+pub use performing::perform;
+pub use queries::run_query;

@@ -1,0 +1,4 @@
+pub mod Formats
+pub mod Found
+pub mod Newest
+pub mod Told
