@@ -1,0 +1,5 @@
+mod Bodies
+mod Ending
+mod Invoking
+mod Named
+mod Noting
