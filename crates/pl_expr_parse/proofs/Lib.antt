@@ -6,3 +6,4 @@ pub mod Told
 pub mod Theorem
 pub mod Finished
 pub mod Depths
+pub mod Follows

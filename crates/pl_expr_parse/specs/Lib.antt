@@ -4,3 +4,5 @@ pub mod FirstFollow
 pub mod Nests
 pub mod Spells
 pub mod Finished
+pub mod Follows
+pub mod Smaller

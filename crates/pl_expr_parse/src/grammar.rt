@@ -1,12 +1,17 @@
 //! The parser of one depth.
 
+ghost use Rattle.pl_grammar.specs.Forms.{optional as optional_rule};
+ghost use Rattle.pl_grammar.specs.Marks.{meant};
 ghost use Rattle.pl_grammar.specs.Parser.{Reads};
+ghost use Rattle.pl_grammar.specs.Rule.{inside as inside_rule};
 ghost use Rattle.pl_expr_parse.specs.Grammar as spec;
-ghost use Rattle.pl_expr_parse.specs.FirstFollow.{reads_inside};
+ghost use Rattle.pl_expr_parse.specs.FirstFollow.{reads, reads_inside};
 ghost use Rattle.pl_expr_parse.specs.Nests.{Nests};
 
 use crate::parts::{Inside, Kind};
-use pl_grammar::{Fail, Tokens};
+use crate::steps::some_boxed;
+use pl_base::Boxed;
+use pl_grammar::{Fail, Mark, Tokens};
 use pl_tree::{Expr, From, Query};
 use std::alloc::Global;
 
@@ -51,5 +56,21 @@ impl<F: Fn(Global, &mut Tokens<'_>, usize, Kind) -> Result<Inside, Fail>> Gramma
             Inside::Source(source) => Ok(source),
             Inside::Expression(_) | Inside::Query(_) => unreachable!(),
         }
+    }
+
+    // [mark e]
+    pub(crate) fn optional(
+        &self,
+        tokens: &mut Tokens<'_>,
+        mark: Mark,
+    ) -> Result<Option<Boxed<Expr>>, Fail>
+        requires { Nests self.now.depth (F.pre self.now.inside) (F.post self.now.inside) }
+        ensures { Reads (reads self.now.depth (optional_rule (meant mark) (inside_rule spec.Expression)) tokens.old)
+            result tokens.new }
+    {
+        if !tokens.eat(mark) {
+            return Ok(None);
+        }
+        some_boxed(self.alloc, self.inner(tokens))
     }
 }

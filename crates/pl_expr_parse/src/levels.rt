@@ -8,16 +8,18 @@ ghost use Rattle.pl_expr_parse.specs.FirstFollow.{reads_part};
 ghost use Rattle.pl_expr_parse.specs.Nests.{Nests};
 
 use crate::grammar::Grammar;
+use crate::names::type_name;
 use crate::operators::{comparison_at, factor_at, nots, signs, term_at};
 use crate::parts::{Inside, Kind, Question, Range};
+use crate::steps::until;
 use crate::trees::{
-    concatenation_of, conjunction_of, conversion_of, disjunction_of, negation_of, product_of,
-    range_of, signed_of, sum_of, test_of, type_of,
+    bounds_of, comparison_of, concatenation_of, conjunction_of, conversion_of, disjunction_of,
+    negation_of, product_of, range_of, signed_of, sum_of, test_of,
 };
-use pl_base::{Boxed, Held, List, Test, Ty};
+use pl_base::{List, Test};
 use pl_grammar::{Fail, Mark, Tokens, links};
 use pl_lex::{Keyword, Sign};
-use pl_tree::{Expr, Factor, From, Term};
+use pl_tree::{Expr, Factor, Term};
 use std::alloc::Global;
 
 impl<F: Fn(Global, &mut Tokens<'_>, usize, Kind) -> Result<Inside, Fail>> Grammar<F> {
@@ -26,14 +28,14 @@ impl<F: Fn(Global, &mut Tokens<'_>, usize, Kind) -> Result<Inside, Fail>> Gramma
         requires { Nests self.now.depth (F.pre self.now.inside) (F.post self.now.inside) }
         ensures { Reads (reads_part self.now.depth spec.Expression tokens.old) result tokens.new }
     {
-        let first = Held::new(self.conjunction(tokens)?);
+        let first = self.conjunction(tokens)?;
         let more = links(
             self.alloc,
             tokens,
             Mark::Keyword(Keyword::Or),
             |tokens| self.conjunction(tokens),
-        )?;
-        Ok(disjunction_of(self.alloc, first.into_inner(), more)?)
+        );
+        disjunction_of(self.alloc, first, more)
     }
 
     #[tactic(auto, using(crate::proofs::Step::gives))]
@@ -41,14 +43,14 @@ impl<F: Fn(Global, &mut Tokens<'_>, usize, Kind) -> Result<Inside, Fail>> Gramma
         requires { Nests self.now.depth (F.pre self.now.inside) (F.post self.now.inside) }
         ensures { Reads (reads_part self.now.depth spec.Conjunction tokens.old) result tokens.new }
     {
-        let first = Held::new(self.negation(tokens)?);
+        let first = self.negation(tokens)?;
         let more = links(
             self.alloc,
             tokens,
             Mark::Keyword(Keyword::And),
             |tokens| self.negation(tokens),
-        )?;
-        Ok(conjunction_of(self.alloc, first.into_inner(), more)?)
+        );
+        conjunction_of(self.alloc, first, more)
     }
 
     #[tactic(auto, using(crate::proofs::Step::gives))]
@@ -57,8 +59,7 @@ impl<F: Fn(Global, &mut Tokens<'_>, usize, Kind) -> Result<Inside, Fail>> Gramma
         ensures { Reads (reads_part self.now.depth spec.Negation tokens.old) result tokens.new }
     {
         let count = nots(tokens);
-        let operand = self.test(tokens)?;
-        Ok(negation_of(self.alloc, count, operand)?)
+        negation_of(self.alloc, count, self.test(tokens))
     }
 
     #[tactic(auto, using(crate::proofs::Step::gives))]
@@ -66,13 +67,12 @@ impl<F: Fn(Global, &mut Tokens<'_>, usize, Kind) -> Result<Inside, Fail>> Gramma
         requires { Nests self.now.depth (F.pre self.now.inside) (F.post self.now.inside) }
         ensures { Reads (reads_part self.now.depth spec.Test tokens.old) result tokens.new }
     {
-        let operand = Held::new(self.comparison(tokens)?);
+        let operand = self.comparison(tokens)?;
         if !tokens.eat(Mark::Keyword(Keyword::Is)) {
-            return Ok(operand.into_inner());
+            return Ok(operand);
         }
         let is_negated = tokens.eat(Mark::Keyword(Keyword::Not));
-        let question = self.question(tokens)?;
-        Ok(test_of(self.alloc, operand.into_inner(), is_negated, question)?)
+        test_of(self.alloc, operand, is_negated, self.question(tokens))
     }
 
     // What IS asks.
@@ -103,20 +103,13 @@ impl<F: Fn(Global, &mut Tokens<'_>, usize, Kind) -> Result<Inside, Fail>> Gramma
         requires { Nests self.now.depth (F.pre self.now.inside) (F.post self.now.inside) }
         ensures { Reads (reads_part self.now.depth spec.Comparison tokens.old) result tokens.new }
     {
-        let left = Held::new(self.ranged(tokens)?);
+        let left = self.ranged(tokens)?;
         let comparison = match comparison_at(tokens) {
             Some(comparison) => comparison,
-            None => return Ok(left.into_inner()),
+            None => return Ok(left),
         };
         tokens.skip();
-        let right = self.ranged(tokens)?;
-        let right = Boxed::new(self.alloc, right)?;
-        let left = Boxed::new(self.alloc, left.into_inner())?;
-        Ok(Expr::Compare {
-            comparison,
-            left,
-            right,
-        })
+        comparison_of(self.alloc, left, comparison, self.ranged(tokens))
     }
 
     #[tactic(auto, using(crate::proofs::Step::gives))]
@@ -124,10 +117,9 @@ impl<F: Fn(Global, &mut Tokens<'_>, usize, Kind) -> Result<Inside, Fail>> Gramma
         requires { Nests self.now.depth (F.pre self.now.inside) (F.post self.now.inside) }
         ensures { Reads (reads_part self.now.depth spec.Ranged tokens.old) result tokens.new }
     {
-        let operand = Held::new(self.concatenation(tokens)?);
+        let operand = self.concatenation(tokens)?;
         let is_negated = tokens.eat(Mark::Keyword(Keyword::Not));
-        let range = self.range(tokens)?;
-        range_of(self.alloc, operand.into_inner(), is_negated, range)
+        range_of(self.alloc, operand, is_negated, self.range(tokens))
     }
 
     // What stands behind an operand of level 7, if there is such a thing.
@@ -137,10 +129,9 @@ impl<F: Fn(Global, &mut Tokens<'_>, usize, Kind) -> Result<Inside, Fail>> Gramma
         ensures { Reads (reads_part self.now.depth spec.Range tokens.old) result tokens.new }
     {
         if tokens.eat(Mark::Keyword(Keyword::Between)) {
-            let low = Held::new(self.concatenation(tokens)?);
-            tokens.expect(Mark::Keyword(Keyword::And))?;
-            let high = self.concatenation(tokens)?;
-            return Ok(Some(Range::Between(low.into_inner(), high)));
+            let low = self.concatenation(tokens);
+            let low = until(tokens, Mark::Keyword(Keyword::And), low)?;
+            return bounds_of(low, self.concatenation(tokens));
         }
         if tokens.eat(Mark::Keyword(Keyword::Like)) {
             return Ok(Some(Range::Like(self.concatenation(tokens)?)));
@@ -159,12 +150,12 @@ impl<F: Fn(Global, &mut Tokens<'_>, usize, Kind) -> Result<Inside, Fail>> Gramma
     {
         tokens.expect(Mark::Sign(Sign::Open))?;
         if tokens.sees(Mark::Keyword(Keyword::Select)) {
-            let query = Held::new(self.inner_query(tokens)?);
-            tokens.expect(Mark::Sign(Sign::Close))?;
-            return Ok(Range::InQuery(query.into_inner()));
+            let query = self.inner_query(tokens);
+            let query = until(tokens, Mark::Sign(Sign::Close), query)?;
+            return Ok(Range::InQuery(query));
         }
-        let list = self.expressions(tokens)?;
-        tokens.expect(Mark::Sign(Sign::Close))?;
+        let list = self.expressions(tokens);
+        let list = until(tokens, Mark::Sign(Sign::Close), list)?;
         Ok(Range::InList(list))
     }
 
@@ -173,14 +164,14 @@ impl<F: Fn(Global, &mut Tokens<'_>, usize, Kind) -> Result<Inside, Fail>> Gramma
         requires { Nests self.now.depth (F.pre self.now.inside) (F.post self.now.inside) }
         ensures { Reads (reads_part self.now.depth spec.Concatenation tokens.old) result tokens.new }
     {
-        let first = Held::new(self.sum(tokens)?);
+        let first = self.sum(tokens)?;
         let more = links(
             self.alloc,
             tokens,
             Mark::Sign(Sign::Concat),
             |tokens| self.sum(tokens),
-        )?;
-        Ok(concatenation_of(self.alloc, first.into_inner(), more)?)
+        );
+        concatenation_of(self.alloc, first, more)
     }
 
     // {(+ | -) product}
@@ -206,9 +197,8 @@ impl<F: Fn(Global, &mut Tokens<'_>, usize, Kind) -> Result<Inside, Fail>> Gramma
         requires { Nests self.now.depth (F.pre self.now.inside) (F.post self.now.inside) }
         ensures { Reads (reads_part self.now.depth spec.Sum tokens.old) result tokens.new }
     {
-        let first = Held::new(self.product(tokens)?);
-        let more = self.terms(tokens)?;
-        Ok(sum_of(self.alloc, first.into_inner(), more)?)
+        let first = self.product(tokens)?;
+        sum_of(self.alloc, first, self.terms(tokens))
     }
 
     // {(* | / | %) signed}
@@ -234,9 +224,8 @@ impl<F: Fn(Global, &mut Tokens<'_>, usize, Kind) -> Result<Inside, Fail>> Gramma
         requires { Nests self.now.depth (F.pre self.now.inside) (F.post self.now.inside) }
         ensures { Reads (reads_part self.now.depth spec.Product tokens.old) result tokens.new }
     {
-        let first = Held::new(self.signed(tokens)?);
-        let more = self.factors(tokens)?;
-        Ok(product_of(self.alloc, first.into_inner(), more)?)
+        let first = self.signed(tokens)?;
+        product_of(self.alloc, first, self.factors(tokens))
     }
 
     #[tactic(auto, using(crate::proofs::Step::gives))]
@@ -245,8 +234,7 @@ impl<F: Fn(Global, &mut Tokens<'_>, usize, Kind) -> Result<Inside, Fail>> Gramma
         ensures { Reads (reads_part self.now.depth spec.Signed tokens.old) result tokens.new }
     {
         let signs = signs(self.alloc, tokens)?;
-        let operand = self.conversion(tokens)?;
-        Ok(signed_of(self.alloc, signs, operand)?)
+        signed_of(self.alloc, signs, self.conversion(tokens))
     }
 
     #[tactic(auto, using(crate::proofs::Step::gives))]
@@ -254,22 +242,13 @@ impl<F: Fn(Global, &mut Tokens<'_>, usize, Kind) -> Result<Inside, Fail>> Gramma
         requires { Nests self.now.depth (F.pre self.now.inside) (F.post self.now.inside) }
         ensures { Reads (reads_part self.now.depth spec.Conversion tokens.old) result tokens.new }
     {
-        let first = Held::new(self.primary(tokens)?);
-        let more = links(
+        let operand = self.primary(tokens)?;
+        let types = links(
             self.alloc,
             tokens,
             Mark::Sign(Sign::Cast),
-            |tokens| self.type_name(tokens),
-        )?;
-        Ok(conversion_of(self.alloc, first.into_inner(), more)?)
-    }
-
-    #[tactic(auto, using(crate::proofs::Step::gives))]
-    pub(crate) fn type_name(&self, tokens: &mut Tokens<'_>) -> Result<Ty, Fail>
-        requires { Nests self.now.depth (F.pre self.now.inside) (F.post self.now.inside) }
-        ensures { Reads (reads_part self.now.depth spec.TypeName tokens.old) result tokens.new }
-    {
-        let (in_quotes, name) = tokens.written_name()?;
-        Ok(type_of(in_quotes, name))
+            |tokens| type_name(tokens),
+        );
+        conversion_of(self.alloc, operand, types)
     }
 }

@@ -3,12 +3,14 @@
 
 mod grammar;
 mod levels;
+mod names;
 mod operators;
 mod parse;
 mod parts;
 mod primary;
 mod queries;
 mod readers;
+mod steps;
 mod trees;
 
 pub use parse::{parse_expr, parse_query};

@@ -1,7 +1,7 @@
 //! Operators and prefixes.
 
 ghost use Rattle.std.specs.Prelude.{[], ◌≡◌, length, replicate, Some};
-ghost use Rattle.pl_grammar.specs.Parser.{Reads, pure, joins, links_from};
+ghost use Rattle.pl_grammar.specs.Parser.{Reads, and_then, expect, pure, joins, links_from};
 ghost use Rattle.pl_grammar.specs.Forms.{alone, by};
 ghost use Rattle.pl_grammar.specs.Words as w;
 ghost use Rattle.pl_expr_parse.specs.Grammar as spec;
@@ -113,6 +113,15 @@ pub(crate) fn is_named(tokens: &Tokens<'_>) -> bool
     ensures { result ≡ spec.is_named tokens.now }
 {
     tokens.sees_two(Mark::Word("fatal_errors"), Mark::Sign(Sign::Arrow))
+}
+
+// fatal_errors =>
+pub(crate) fn past_name(tokens: &mut Tokens<'_>) -> Result<(), Fail>
+    ensures { Reads (and_then (expect w.FATAL_ERRORS tokens.old) (λ _ ts. expect w.ARROW ts))
+        result tokens.new }
+{
+    tokens.expect(Mark::Word("fatal_errors"))?;
+    tokens.expect(Mark::Sign(Sign::Arrow))
 }
 
 // Whether all columns of a name are asked for here.

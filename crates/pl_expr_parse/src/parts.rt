@@ -1,7 +1,7 @@
 //! What is read before the tree that it becomes a part of is known.
 
-use pl_base::{List, Name, Test};
-use pl_tree::{Argument, Expr, From, Query};
+use pl_base::{Boxed, List, Name, Test};
+use pl_tree::{Argument, Expr, From, Key, Query};
 
 /// What may stand inside: in brackets or behind a word.
 #[derive(Clone, Copy)]
@@ -48,3 +48,21 @@ pub enum Suffix {
     /// `(arguments)`
     Call(List<Argument>),
 }
+
+/// LIMIT and OFFSET.
+pub type Paging = (Option<Boxed<Expr>>, Option<Boxed<Expr>>);
+
+/// ORDER BY, and what stands behind it.
+pub type Ordered = (List<Key>, Paging);
+
+/// HAVING, and what stands behind it.
+pub type Chosen = (Option<Boxed<Expr>>, Ordered);
+
+/// GROUP BY, and what stands behind it.
+pub type Ending = (List<Expr>, Chosen);
+
+/// WHERE, and what stands behind it.
+pub type BehindFrom = (Option<Boxed<Expr>>, Ending);
+
+/// FROM, and what stands behind it.
+pub type BehindItems = (List<From>, BehindFrom);

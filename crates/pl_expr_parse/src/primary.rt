@@ -2,14 +2,19 @@
 
 ghost use Rattle.pl_grammar.specs.Parser.{Reads};
 ghost use Rattle.pl_expr_parse.specs.Grammar as spec;
-ghost use Rattle.pl_expr_parse.specs.FirstFollow.{reads_part};
+ghost use Rattle.pl_expr_parse.specs.FirstFollow.{reads, reads_part};
 ghost use Rattle.pl_expr_parse.specs.Nests.{Nests};
+ghost use Rattle.pl_expr_parse.specs.Smaller.{called as called_rule, picked as picked_rule};
 
 use crate::grammar::Grammar;
-use crate::operators::is_named;
+use crate::names::type_name;
+use crate::operators::{is_named, past_name};
 use crate::parts::{Inside, Kind, Suffix};
-use crate::trees::{named_of, null_if_of};
-use pl_base::{Boxed, Held, List};
+use crate::steps::{paired, until};
+use crate::trees::{
+    arm_of, case_of, cast_of, exists_of, named_of, null_if_of, query_value_of, searched_of,
+};
+use pl_base::{Boxed, List};
 use pl_grammar::{Fail, Mark, Tokens, list};
 use pl_lex::{Keyword, Sign};
 use pl_tree::{Argument, Arm, Expr, Literal, Pick};
@@ -50,13 +55,12 @@ impl<F: Fn(Global, &mut Tokens<'_>, usize, Kind) -> Result<Inside, Fail>> Gramma
         ensures { Reads (reads_part self.now.depth spec.Bracketed tokens.old) result tokens.new }
     {
         if tokens.sees(Mark::Keyword(Keyword::Select)) {
-            let query = Held::new(self.inner_query(tokens)?);
-            tokens.expect(Mark::Sign(Sign::Close))?;
-            return Ok(Expr::Subquery(Boxed::new(self.alloc, query.into_inner())?));
+            let query = self.inner_query(tokens);
+            let query = until(tokens, Mark::Sign(Sign::Close), query);
+            return query_value_of(self.alloc, query);
         }
-        let inner = Held::new(self.inner(tokens)?);
-        tokens.expect(Mark::Sign(Sign::Close))?;
-        Ok(inner.into_inner())
+        let inner = self.inner(tokens);
+        until(tokens, Mark::Sign(Sign::Close), inner)
     }
 
     // What begins with a name.
@@ -66,8 +70,7 @@ impl<F: Fn(Global, &mut Tokens<'_>, usize, Kind) -> Result<Inside, Fail>> Gramma
         ensures { Reads (reads_part self.now.depth spec.Named tokens.old) result tokens.new }
     {
         let name = tokens.name()?;
-        let suffix = self.suffix(tokens)?;
-        named_of(name, suffix)
+        named_of(name, self.suffix(tokens))
     }
 
     // What follows a name.
@@ -89,40 +92,16 @@ impl<F: Fn(Global, &mut Tokens<'_>, usize, Kind) -> Result<Inside, Fail>> Gramma
         Ok(Suffix::Call(self.arguments(tokens)?))
     }
 
-    // fatal_errors => e
-    #[tactic(auto, using(crate::proofs::Step::gives))]
-    pub(crate) fn named_argument(&self, tokens: &mut Tokens<'_>) -> Result<Argument, Fail>
-        requires { Nests self.now.depth (F.pre self.now.inside) (F.post self.now.inside) }
-        ensures { Reads (reads_part self.now.depth spec.NamedArgument tokens.old) result tokens.new }
-    {
-        tokens.expect(Mark::Word("fatal_errors"))?;
-        tokens.expect(Mark::Sign(Sign::Arrow))?;
-        Ok(Argument::FatalErrors(self.inner(tokens)?))
-    }
-
     #[tactic(auto, using(crate::proofs::Step::gives, crate::proofs::Step::then_reads, crate::proofs::Step::else_reads))]
     pub(crate) fn argument(&self, tokens: &mut Tokens<'_>) -> Result<Argument, Fail>
         requires { Nests self.now.depth (F.pre self.now.inside) (F.post self.now.inside) }
         ensures { Reads (reads_part self.now.depth spec.Argument tokens.old) result tokens.new }
     {
         if is_named(tokens) {
-            return self.named_argument(tokens);
+            past_name(tokens)?;
+            return Ok(Argument::FatalErrors(self.inner(tokens)?));
         }
         Ok(Argument::Value(self.inner(tokens)?))
-    }
-
-    // argument {, argument}
-    #[tactic(auto, using(crate::proofs::Step::gives))]
-    pub(crate) fn argument_list(&self, tokens: &mut Tokens<'_>) -> Result<List<Argument>, Fail>
-        requires { Nests self.now.depth (F.pre self.now.inside) (F.post self.now.inside) }
-        ensures { Reads (reads_part self.now.depth spec.ArgumentList tokens.old) result tokens.new }
-    {
-        list(
-            self.alloc,
-            tokens,
-            Mark::Sign(Sign::Comma),
-            |tokens| self.argument(tokens),
-        )
     }
 
     // The arguments of a call, behind its bracket.
@@ -134,9 +113,13 @@ impl<F: Fn(Global, &mut Tokens<'_>, usize, Kind) -> Result<Inside, Fail>> Gramma
         if tokens.eat(Mark::Sign(Sign::Close)) {
             return Ok(List::new(self.alloc));
         }
-        let list = self.argument_list(tokens)?;
-        tokens.expect(Mark::Sign(Sign::Close))?;
-        Ok(list)
+        let arguments = list(
+            self.alloc,
+            tokens,
+            Mark::Sign(Sign::Comma),
+            |tokens| self.argument(tokens),
+        );
+        until(tokens, Mark::Sign(Sign::Close), arguments)
     }
 
     // e {, e}
@@ -160,9 +143,8 @@ impl<F: Fn(Global, &mut Tokens<'_>, usize, Kind) -> Result<Inside, Fail>> Gramma
         ensures { Reads (reads_part self.now.depth spec.BracketedList tokens.old) result tokens.new }
     {
         tokens.expect(Mark::Sign(Sign::Open))?;
-        let list = self.expressions(tokens)?;
-        tokens.expect(Mark::Sign(Sign::Close))?;
-        Ok(list)
+        let list = self.expressions(tokens);
+        until(tokens, Mark::Sign(Sign::Close), list)
     }
 
     // What begins with a reserved word.
@@ -180,26 +162,25 @@ impl<F: Fn(Global, &mut Tokens<'_>, usize, Kind) -> Result<Inside, Fail>> Gramma
         if tokens.eat(Mark::Keyword(Keyword::Null)) {
             return Ok(Expr::Literal(Literal::Null));
         }
+        self.called(tokens)
+    }
+
+    // The same, behind what is a literal.
+    pub(crate) fn called(&self, tokens: &mut Tokens<'_>) -> Result<Expr, Fail>
+        requires { Nests self.now.depth (F.pre self.now.inside) (F.post self.now.inside) }
+        ensures { Reads (reads self.now.depth called_rule tokens.old) result tokens.new }
+    {
         if tokens.eat(Mark::Keyword(Keyword::Exists)) {
             return self.exists(tokens);
         }
         if tokens.eat(Mark::Keyword(Keyword::Coalesce)) {
-            return Ok(Expr::Pick {
-                pick: Pick::Coalesce,
-                list: self.in_brackets(tokens)?,
-            });
+            return self.picked(tokens, Pick::Coalesce);
         }
         if tokens.eat(Mark::Keyword(Keyword::Greatest)) {
-            return Ok(Expr::Pick {
-                pick: Pick::Greatest,
-                list: self.in_brackets(tokens)?,
-            });
+            return self.picked(tokens, Pick::Greatest);
         }
         if tokens.eat(Mark::Keyword(Keyword::Least)) {
-            return Ok(Expr::Pick {
-                pick: Pick::Least,
-                list: self.in_brackets(tokens)?,
-            });
+            return self.picked(tokens, Pick::Least);
         }
         if tokens.eat(Mark::Keyword(Keyword::Nullif)) {
             return self.null_if(tokens);
@@ -213,6 +194,17 @@ impl<F: Fn(Global, &mut Tokens<'_>, usize, Kind) -> Result<Inside, Fail>> Gramma
         self.case(tokens)
     }
 
+    // (e {, e}), of which one is picked.
+    pub(crate) fn picked(&self, tokens: &mut Tokens<'_>, pick: Pick) -> Result<Expr, Fail>
+        requires { Nests self.now.depth (F.pre self.now.inside) (F.post self.now.inside) }
+        ensures { Reads (reads self.now.depth (picked_rule pick) tokens.old) result tokens.new }
+    {
+        Ok(Expr::Pick {
+            pick,
+            list: self.in_brackets(tokens)?,
+        })
+    }
+
     // (query)
     #[tactic(auto, using(crate::proofs::Step::gives))]
     pub(crate) fn exists(&self, tokens: &mut Tokens<'_>) -> Result<Expr, Fail>
@@ -220,31 +212,9 @@ impl<F: Fn(Global, &mut Tokens<'_>, usize, Kind) -> Result<Inside, Fail>> Gramma
         ensures { Reads (reads_part self.now.depth spec.Exists tokens.old) result tokens.new }
     {
         tokens.expect(Mark::Sign(Sign::Open))?;
-        let query = Held::new(self.inner_query(tokens)?);
-        tokens.expect(Mark::Sign(Sign::Close))?;
-        Ok(Expr::Exists(Boxed::new(self.alloc, query.into_inner())?))
-    }
-
-    // e,
-    #[tactic(auto, using(crate::proofs::Step::gives))]
-    pub(crate) fn before_comma(&self, tokens: &mut Tokens<'_>) -> Result<Expr, Fail>
-        requires { Nests self.now.depth (F.pre self.now.inside) (F.post self.now.inside) }
-        ensures { Reads (reads_part self.now.depth spec.BeforeComma tokens.old) result tokens.new }
-    {
-        let value = Held::new(self.inner(tokens)?);
-        tokens.expect(Mark::Sign(Sign::Comma))?;
-        Ok(value.into_inner())
-    }
-
-    // e)
-    #[tactic(auto, using(crate::proofs::Step::gives))]
-    pub(crate) fn before_close(&self, tokens: &mut Tokens<'_>) -> Result<Expr, Fail>
-        requires { Nests self.now.depth (F.pre self.now.inside) (F.post self.now.inside) }
-        ensures { Reads (reads_part self.now.depth spec.BeforeClose tokens.old) result tokens.new }
-    {
-        let value = Held::new(self.inner(tokens)?);
-        tokens.expect(Mark::Sign(Sign::Close))?;
-        Ok(value.into_inner())
+        let query = self.inner_query(tokens);
+        let query = until(tokens, Mark::Sign(Sign::Close), query);
+        exists_of(self.alloc, query)
     }
 
     // (e, e)
@@ -254,9 +224,11 @@ impl<F: Fn(Global, &mut Tokens<'_>, usize, Kind) -> Result<Inside, Fail>> Gramma
         ensures { Reads (reads_part self.now.depth spec.NullIf tokens.old) result tokens.new }
     {
         tokens.expect(Mark::Sign(Sign::Open))?;
-        let first = Held::new(self.before_comma(tokens)?);
-        let second = self.before_close(tokens)?;
-        Ok(null_if_of(self.alloc, first.into_inner(), second)?)
+        let first = self.inner(tokens);
+        let first = until(tokens, Mark::Sign(Sign::Comma), first)?;
+        let second = self.inner(tokens);
+        let second = until(tokens, Mark::Sign(Sign::Close), second);
+        null_if_of(self.alloc, first, second)
     }
 
     // (e AS type)
@@ -266,13 +238,11 @@ impl<F: Fn(Global, &mut Tokens<'_>, usize, Kind) -> Result<Inside, Fail>> Gramma
         ensures { Reads (reads_part self.now.depth spec.Cast tokens.old) result tokens.new }
     {
         tokens.expect(Mark::Sign(Sign::Open))?;
-        let operand = Boxed::new(self.alloc, self.inner(tokens)?)?;
-        tokens.expect(Mark::Keyword(Keyword::As))?;
-        let ty = self.type_name(tokens)?;
-        tokens.expect(Mark::Sign(Sign::Close))?;
-        let mut types = List::new(self.alloc);
-        types.push(ty)?;
-        Ok(Expr::Cast { operand, types })
+        let operand = self.inner(tokens);
+        let operand = until(tokens, Mark::Keyword(Keyword::As), operand)?;
+        let ty = type_name(tokens);
+        let ty = until(tokens, Mark::Sign(Sign::Close), ty);
+        cast_of(self.alloc, operand, ty)
     }
 
     // ([e {, e}])
@@ -285,8 +255,8 @@ impl<F: Fn(Global, &mut Tokens<'_>, usize, Kind) -> Result<Inside, Fail>> Gramma
         if tokens.eat(Mark::Sign(Sign::Close)) {
             return Ok(Expr::Row(List::new(self.alloc)));
         }
-        let list = self.expressions(tokens)?;
-        tokens.expect(Mark::Sign(Sign::Close))?;
+        let list = self.expressions(tokens);
+        let list = until(tokens, Mark::Sign(Sign::Close), list)?;
         Ok(Expr::Row(list))
     }
 
@@ -296,40 +266,9 @@ impl<F: Fn(Global, &mut Tokens<'_>, usize, Kind) -> Result<Inside, Fail>> Gramma
         requires { Nests self.now.depth (F.pre self.now.inside) (F.post self.now.inside) }
         ensures { Reads (reads_part self.now.depth spec.Arm tokens.old) result tokens.new }
     {
-        let when = Held::new(self.inner(tokens)?);
-        tokens.expect(Mark::Keyword(Keyword::Then))?;
-        let then = self.inner(tokens)?;
-        Ok(Arm {
-            when: when.into_inner(),
-            then,
-        })
-    }
-
-    // [ELSE e]
-    #[tactic(auto, using(crate::proofs::Step::gives))]
-    pub(crate) fn otherwise(&self, tokens: &mut Tokens<'_>) -> Result<Option<Boxed<Expr>>, Fail>
-        requires { Nests self.now.depth (F.pre self.now.inside) (F.post self.now.inside) }
-        ensures { Reads (reads_part self.now.depth spec.Otherwise tokens.old) result tokens.new }
-    {
-        if !tokens.eat(Mark::Keyword(Keyword::Else)) {
-            return Ok(None);
-        }
-        let value = self.inner(tokens)?;
-        Ok(Some(Boxed::new(self.alloc, value)?))
-    }
-
-    // The arms of a CASE, behind its first WHEN.
-    #[tactic(auto, using(crate::proofs::Step::gives))]
-    pub(crate) fn whens(&self, tokens: &mut Tokens<'_>) -> Result<List<Arm>, Fail>
-        requires { Nests self.now.depth (F.pre self.now.inside) (F.post self.now.inside) }
-        ensures { Reads (reads_part self.now.depth spec.Whens tokens.old) result tokens.new }
-    {
-        list(
-            self.alloc,
-            tokens,
-            Mark::Keyword(Keyword::When),
-            |tokens| self.arm(tokens),
-        )
+        let when = self.inner(tokens);
+        let when = until(tokens, Mark::Keyword(Keyword::Then), when)?;
+        arm_of(when, self.inner(tokens))
     }
 
     // The arms and ELSE.
@@ -341,10 +280,15 @@ impl<F: Fn(Global, &mut Tokens<'_>, usize, Kind) -> Result<Inside, Fail>> Gramma
         requires { Nests self.now.depth (F.pre self.now.inside) (F.post self.now.inside) }
         ensures { Reads (reads_part self.now.depth spec.Arms tokens.old) result tokens.new }
     {
-        let arms = self.whens(tokens)?;
-        let otherwise = self.otherwise(tokens)?;
-        tokens.expect(Mark::Keyword(Keyword::End))?;
-        Ok((arms, otherwise))
+        let arms = list(
+            self.alloc,
+            tokens,
+            Mark::Keyword(Keyword::When),
+            |tokens| self.arm(tokens),
+        )?;
+        let otherwise = self.optional(tokens, Mark::Keyword(Keyword::Else));
+        let otherwise = until(tokens, Mark::Keyword(Keyword::End), otherwise);
+        paired(arms, otherwise)
     }
 
     #[tactic(auto, using(crate::proofs::Step::gives))]
@@ -354,20 +298,10 @@ impl<F: Fn(Global, &mut Tokens<'_>, usize, Kind) -> Result<Inside, Fail>> Gramma
     {
         tokens.expect(Mark::Keyword(Keyword::Case))?;
         if tokens.eat(Mark::Keyword(Keyword::When)) {
-            let (arms, otherwise) = self.arms(tokens)?;
-            return Ok(Expr::Case {
-                operand: None,
-                arms,
-                otherwise,
-            });
+            return searched_of(self.arms(tokens));
         }
-        let operand = Boxed::new(self.alloc, self.inner(tokens)?)?;
-        tokens.expect(Mark::Keyword(Keyword::When))?;
-        let (arms, otherwise) = self.arms(tokens)?;
-        Ok(Expr::Case {
-            operand: Some(operand),
-            arms,
-            otherwise,
-        })
+        let operand = self.inner(tokens);
+        let operand = until(tokens, Mark::Keyword(Keyword::When), operand)?;
+        case_of(self.alloc, operand, self.arms(tokens))
     }
 }

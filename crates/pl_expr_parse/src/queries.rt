@@ -1,30 +1,24 @@
 //! Queries.
 
-ghost use Rattle.pl_grammar.specs.Forms.{list_of};
 ghost use Rattle.pl_grammar.specs.Parser.{Reads};
-ghost use Rattle.pl_grammar.specs.Rule.{part};
 ghost use Rattle.pl_expr_parse.specs.Grammar as spec;
 ghost use Rattle.pl_expr_parse.specs.FirstFollow.{reads, reads_part};
 ghost use Rattle.pl_expr_parse.specs.Nests.{Nests};
+ghost use Rattle.pl_expr_parse.specs.Smaller as piece;
 
 use crate::grammar::Grammar;
+use crate::names::{alias, all_of, direction, label, nulls};
 use crate::operators::is_all_of;
-use crate::parts::{Inside, Kind};
-use crate::trees::{joined_of, source_of};
-use pl_base::{Boxed, Held, List, Name};
+use crate::parts::{BehindFrom, BehindItems, Chosen, Ending, Inside, Kind, Ordered, Paging};
+use crate::steps::{paired, some_boxed, until};
+use crate::trees::{
+    item_of, join_of, joined_of, joined_on_of, key_of, limited, query_of, source_of, subquery_of,
+};
+use pl_base::{Boxed, List};
 use pl_grammar::{Fail, Mark, Tokens, list, many};
 use pl_lex::{Keyword, Sign};
-use pl_tree::{Argument, Expr, From, Item, Join, JoinKind, Key, Nulls, Query};
+use pl_tree::{Argument, Expr, From, Item, Join, JoinKind, Key, Query};
 use std::alloc::Global;
-
-// What may stand behind the condition of a query.
-type Ending = (
-    List<Expr>,
-    (
-        Option<Boxed<Expr>>,
-        (List<Key>, (Option<Boxed<Expr>>, Option<Boxed<Expr>>)),
-    ),
-);
 
 // What a join begins with.
 const JOINS: [Mark; 4] = [
@@ -35,36 +29,6 @@ const JOINS: [Mark; 4] = [
 ];
 
 impl<F: Fn(Global, &mut Tokens<'_>, usize, Kind) -> Result<Inside, Fail>> Grammar<F> {
-    // [AS label | name]
-    #[tactic(auto, using(crate::proofs::Step::gives))]
-    pub(crate) fn label(&self, tokens: &mut Tokens<'_>) -> Result<Option<Name>, Fail>
-        requires { Nests self.now.depth (F.pre self.now.inside) (F.post self.now.inside) }
-        ensures { Reads (reads_part self.now.depth spec.Label tokens.old) result tokens.new }
-    {
-        if tokens.eat(Mark::Keyword(Keyword::As)) {
-            return Ok(Some(tokens.label()?));
-        }
-        if tokens.sees(Mark::Name) {
-            return Ok(Some(tokens.bare_alias()?));
-        }
-        Ok(None)
-    }
-
-    // [[AS] name]
-    #[tactic(auto, using(crate::proofs::Step::gives))]
-    pub(crate) fn alias(&self, tokens: &mut Tokens<'_>) -> Result<Option<Name>, Fail>
-        requires { Nests self.now.depth (F.pre self.now.inside) (F.post self.now.inside) }
-        ensures { Reads (reads_part self.now.depth spec.Alias tokens.old) result tokens.new }
-    {
-        if tokens.eat(Mark::Keyword(Keyword::As)) {
-            return Ok(Some(tokens.name()?));
-        }
-        if tokens.sees(Mark::Name) {
-            return Ok(Some(tokens.bare_alias()?));
-        }
-        Ok(None)
-    }
-
     #[tactic(auto, using(crate::proofs::Step::gives, crate::proofs::Step::then_reads, crate::proofs::Step::else_reads))]
     pub(crate) fn item(&self, tokens: &mut Tokens<'_>) -> Result<Item, Fail>
         requires { Nests self.now.depth (F.pre self.now.inside) (F.post self.now.inside) }
@@ -74,17 +38,10 @@ impl<F: Fn(Global, &mut Tokens<'_>, usize, Kind) -> Result<Inside, Fail>> Gramma
             return Ok(Item::All);
         }
         if is_all_of(tokens) {
-            let name = tokens.name()?;
-            tokens.expect(Mark::Sign(Sign::Dot))?;
-            tokens.expect(Mark::Sign(Sign::Star))?;
-            return Ok(Item::AllOf(name));
+            return all_of(tokens);
         }
-        let value = Held::new(self.inner(tokens)?);
-        let label = self.label(tokens)?;
-        Ok(Item::Value {
-            value: value.into_inner(),
-            label,
-        })
+        let value = self.inner(tokens)?;
+        item_of(value, label(tokens))
     }
 
     // item {, item}
@@ -114,19 +71,6 @@ impl<F: Fn(Global, &mut Tokens<'_>, usize, Kind) -> Result<Inside, Fail>> Gramma
         Ok((false, self.items(tokens)?))
     }
 
-    // from {, from}
-    fn tables(&self, tokens: &mut Tokens<'_>) -> Result<List<From>, Fail>
-        requires { Nests self.now.depth (F.pre self.now.inside) (F.post self.now.inside) }
-        ensures { Reads (reads self.now.depth (list_of (part spec.From)) tokens.old) result tokens.new }
-    {
-        list(
-            self.alloc,
-            tokens,
-            Mark::Sign(Sign::Comma),
-            |tokens| self.source(tokens),
-        )
-    }
-
     // [FROM from {, from}]
     #[tactic(auto, using(crate::proofs::Step::gives))]
     pub(crate) fn sources(&self, tokens: &mut Tokens<'_>) -> Result<List<From>, Fail>
@@ -136,20 +80,12 @@ impl<F: Fn(Global, &mut Tokens<'_>, usize, Kind) -> Result<Inside, Fail>> Gramma
         if !tokens.eat(Mark::Keyword(Keyword::From)) {
             return Ok(List::new(self.alloc));
         }
-        self.tables(tokens)
-    }
-
-    // [WHERE e]
-    #[tactic(auto, using(crate::proofs::Step::gives))]
-    pub(crate) fn condition(&self, tokens: &mut Tokens<'_>) -> Result<Option<Boxed<Expr>>, Fail>
-        requires { Nests self.now.depth (F.pre self.now.inside) (F.post self.now.inside) }
-        ensures { Reads (reads_part self.now.depth spec.Condition tokens.old) result tokens.new }
-    {
-        if !tokens.eat(Mark::Keyword(Keyword::Where)) {
-            return Ok(None);
-        }
-        let condition = self.inner(tokens)?;
-        Ok(Some(Boxed::new(self.alloc, condition)?))
+        list(
+            self.alloc,
+            tokens,
+            Mark::Sign(Sign::Comma),
+            |tokens| self.source(tokens),
+        )
     }
 
     // [GROUP BY e {, e}]
@@ -165,74 +101,14 @@ impl<F: Fn(Global, &mut Tokens<'_>, usize, Kind) -> Result<Inside, Fail>> Gramma
         self.expressions(tokens)
     }
 
-    // [HAVING e]
-    #[tactic(auto, using(crate::proofs::Step::gives))]
-    pub(crate) fn having(&self, tokens: &mut Tokens<'_>) -> Result<Option<Boxed<Expr>>, Fail>
-        requires { Nests self.now.depth (F.pre self.now.inside) (F.post self.now.inside) }
-        ensures { Reads (reads_part self.now.depth spec.Having tokens.old) result tokens.new }
-    {
-        if !tokens.eat(Mark::Keyword(Keyword::Having)) {
-            return Ok(None);
-        }
-        let condition = self.inner(tokens)?;
-        Ok(Some(Boxed::new(self.alloc, condition)?))
-    }
-
-    // [ASC | DESC]
-    #[tactic(auto, using(crate::proofs::Step::gives))]
-    pub(crate) fn direction(&self, tokens: &mut Tokens<'_>) -> Result<bool, Fail>
-        requires { Nests self.now.depth (F.pre self.now.inside) (F.post self.now.inside) }
-        ensures { Reads (reads_part self.now.depth spec.Direction tokens.old) result tokens.new }
-    {
-        if tokens.eat(Mark::Keyword(Keyword::Desc)) {
-            return Ok(true);
-        }
-        tokens.eat(Mark::Keyword(Keyword::Asc));
-        Ok(false)
-    }
-
-    // [NULLS FIRST | NULLS LAST]
-    #[tactic(auto, using(crate::proofs::Step::gives))]
-    pub(crate) fn nulls(&self, tokens: &mut Tokens<'_>) -> Result<Option<Nulls>, Fail>
-        requires { Nests self.now.depth (F.pre self.now.inside) (F.post self.now.inside) }
-        ensures { Reads (reads_part self.now.depth spec.Nulls tokens.old) result tokens.new }
-    {
-        if !tokens.eat(Mark::Word("nulls")) {
-            return Ok(None);
-        }
-        if tokens.eat(Mark::Word("first")) {
-            return Ok(Some(Nulls::First));
-        }
-        tokens.expect(Mark::Word("last"))?;
-        Ok(Some(Nulls::Last))
-    }
-
     #[tactic(auto, using(crate::proofs::Step::gives))]
     pub(crate) fn key(&self, tokens: &mut Tokens<'_>) -> Result<Key, Fail>
         requires { Nests self.now.depth (F.pre self.now.inside) (F.post self.now.inside) }
         ensures { Reads (reads_part self.now.depth spec.Key tokens.old) result tokens.new }
     {
-        let value = Held::new(self.inner(tokens)?);
-        let is_descending = self.direction(tokens)?;
-        let nulls = self.nulls(tokens)?;
-        Ok(Key {
-            value: value.into_inner(),
-            is_descending,
-            nulls,
-        })
-    }
-
-    // key {, key}
-    fn keys(&self, tokens: &mut Tokens<'_>) -> Result<List<Key>, Fail>
-        requires { Nests self.now.depth (F.pre self.now.inside) (F.post self.now.inside) }
-        ensures { Reads (reads self.now.depth (list_of (part spec.Key)) tokens.old) result tokens.new }
-    {
-        list(
-            self.alloc,
-            tokens,
-            Mark::Sign(Sign::Comma),
-            |tokens| self.key(tokens),
-        )
+        let value = self.inner(tokens)?;
+        let is_descending = direction(tokens);
+        key_of(value, is_descending, nulls(tokens))
     }
 
     // [ORDER BY key {, key}]
@@ -245,7 +121,12 @@ impl<F: Fn(Global, &mut Tokens<'_>, usize, Kind) -> Result<Inside, Fail>> Gramma
             return Ok(List::new(self.alloc));
         }
         tokens.expect(Mark::Keyword(Keyword::By))?;
-        self.keys(tokens)
+        list(
+            self.alloc,
+            tokens,
+            Mark::Sign(Sign::Comma),
+            |tokens| self.key(tokens),
+        )
     }
 
     // ALL | e
@@ -257,60 +138,76 @@ impl<F: Fn(Global, &mut Tokens<'_>, usize, Kind) -> Result<Inside, Fail>> Gramma
         if tokens.eat(Mark::Keyword(Keyword::All)) {
             return Ok(None);
         }
-        let count = self.inner(tokens)?;
-        Ok(Some(Boxed::new(self.alloc, count)?))
-    }
-
-    // [OFFSET e]
-    #[tactic(auto, using(crate::proofs::Step::gives))]
-    pub(crate) fn offset(&self, tokens: &mut Tokens<'_>) -> Result<Option<Boxed<Expr>>, Fail>
-        requires { Nests self.now.depth (F.pre self.now.inside) (F.post self.now.inside) }
-        ensures { Reads (reads_part self.now.depth spec.Offset tokens.old) result tokens.new }
-    {
-        if !tokens.eat(Mark::Keyword(Keyword::Offset)) {
-            return Ok(None);
-        }
-        let count = self.inner(tokens)?;
-        Ok(Some(Boxed::new(self.alloc, count)?))
+        some_boxed(self.alloc, self.inner(tokens))
     }
 
     // [LIMIT limit] [OFFSET e], in either order
     #[tactic(auto, using(crate::proofs::Step::gives))]
-    pub(crate) fn paging(
-        &self,
-        tokens: &mut Tokens<'_>,
-    ) -> Result<(Option<Boxed<Expr>>, Option<Boxed<Expr>>), Fail>
+    pub(crate) fn paging(&self, tokens: &mut Tokens<'_>) -> Result<Paging, Fail>
         requires { Nests self.now.depth (F.pre self.now.inside) (F.post self.now.inside) }
         ensures { Reads (reads_part self.now.depth spec.Paging tokens.old) result tokens.new }
     {
         if tokens.eat(Mark::Keyword(Keyword::Limit)) {
             let limit = self.limit(tokens)?;
-            let offset = self.offset(tokens)?;
-            return Ok((limit, offset));
+            return paired(limit, self.optional(tokens, Mark::Keyword(Keyword::Offset)));
         }
         if !tokens.eat(Mark::Keyword(Keyword::Offset)) {
             return Ok((None, None));
         }
-        let offset = self.inner(tokens)?;
-        let offset = Boxed::new(self.alloc, offset)?;
+        let offset = some_boxed(self.alloc, self.inner(tokens))?;
         if tokens.eat(Mark::Keyword(Keyword::Limit)) {
-            let limit = self.limit(tokens)?;
-            return Ok((limit, Some(offset)));
+            return limited(offset, self.limit(tokens));
         }
-        Ok((None, Some(offset)))
+        Ok((None, offset))
+    }
+
+    // [ORDER BY ..] [LIMIT ..] [OFFSET ..]
+    #[tactic(auto, using(crate::proofs::Step::gives))]
+    pub(crate) fn ordered(&self, tokens: &mut Tokens<'_>) -> Result<Ordered, Fail>
+        requires { Nests self.now.depth (F.pre self.now.inside) (F.post self.now.inside) }
+        ensures { Reads (reads self.now.depth piece.ordered tokens.old) result tokens.new }
+    {
+        let order = self.order(tokens)?;
+        paired(order, self.paging(tokens))
+    }
+
+    // [HAVING ..] [ORDER BY ..] [LIMIT ..] [OFFSET ..]
+    #[tactic(auto, using(crate::proofs::Step::gives))]
+    pub(crate) fn chosen(&self, tokens: &mut Tokens<'_>) -> Result<Chosen, Fail>
+        requires { Nests self.now.depth (F.pre self.now.inside) (F.post self.now.inside) }
+        ensures { Reads (reads self.now.depth piece.chosen tokens.old) result tokens.new }
+    {
+        let having = self.optional(tokens, Mark::Keyword(Keyword::Having))?;
+        paired(having, self.ordered(tokens))
     }
 
     // [GROUP BY ..] [HAVING ..] [ORDER BY ..] [LIMIT ..] [OFFSET ..]
-    #[tactic(auto, using(crate::proofs::Step::gives))]
     pub(crate) fn ending(&self, tokens: &mut Tokens<'_>) -> Result<Ending, Fail>
         requires { Nests self.now.depth (F.pre self.now.inside) (F.post self.now.inside) }
         ensures { Reads (reads self.now.depth spec.ending tokens.old) result tokens.new }
     {
         let groups = self.groups(tokens)?;
-        let having = self.having(tokens)?;
-        let order = self.order(tokens)?;
-        let paging = self.paging(tokens)?;
-        Ok((groups, (having, (order, paging))))
+        paired(groups, self.chosen(tokens))
+    }
+
+    // [WHERE ..] and what stands behind it.
+    #[tactic(auto, using(crate::proofs::Step::gives))]
+    pub(crate) fn behind_from(&self, tokens: &mut Tokens<'_>) -> Result<BehindFrom, Fail>
+        requires { Nests self.now.depth (F.pre self.now.inside) (F.post self.now.inside) }
+        ensures { Reads (reads self.now.depth piece.behind_from tokens.old) result tokens.new }
+    {
+        let condition = self.optional(tokens, Mark::Keyword(Keyword::Where))?;
+        paired(condition, self.ending(tokens))
+    }
+
+    // [FROM ..] and what stands behind it.
+    #[tactic(auto, using(crate::proofs::Step::gives))]
+    pub(crate) fn behind_items(&self, tokens: &mut Tokens<'_>) -> Result<BehindItems, Fail>
+        requires { Nests self.now.depth (F.pre self.now.inside) (F.post self.now.inside) }
+        ensures { Reads (reads self.now.depth piece.behind_items tokens.old) result tokens.new }
+    {
+        let from = self.sources(tokens)?;
+        paired(from, self.behind_from(tokens))
     }
 
     #[tactic(auto, using(crate::proofs::Step::gives))]
@@ -319,21 +216,8 @@ impl<F: Fn(Global, &mut Tokens<'_>, usize, Kind) -> Result<Inside, Fail>> Gramma
         ensures { Reads (reads_part self.now.depth spec.Query tokens.old) result tokens.new }
     {
         tokens.expect(Mark::Keyword(Keyword::Select))?;
-        let (is_distinct, items) = self.selected(tokens)?;
-        let from = self.sources(tokens)?;
-        let condition = self.condition(tokens)?;
-        let (groups, (having, (order, (limit, offset)))) = self.ending(tokens)?;
-        Ok(Query {
-            is_distinct,
-            items,
-            from,
-            condition,
-            groups,
-            having,
-            order,
-            limit,
-            offset,
-        })
+        let selected = self.selected(tokens)?;
+        query_of(selected, self.behind_items(tokens))
     }
 
     // What stands in FROM.
@@ -342,9 +226,9 @@ impl<F: Fn(Global, &mut Tokens<'_>, usize, Kind) -> Result<Inside, Fail>> Gramma
         requires { Nests self.now.depth (F.pre self.now.inside) (F.post self.now.inside) }
         ensures { Reads (reads_part self.now.depth spec.From tokens.old) result tokens.new }
     {
-        let first = Held::new(self.factor(tokens)?);
-        let joins = many(self.alloc, tokens, &JOINS, |tokens| self.join(tokens))?;
-        Ok(joined_of(self.alloc, first.into_inner(), joins)?)
+        let first = self.factor(tokens)?;
+        let joins = many(self.alloc, tokens, &JOINS, |tokens| self.join(tokens));
+        joined_of(self.alloc, first, joins)
     }
 
     // JOIN factor ON e
@@ -354,10 +238,9 @@ impl<F: Fn(Global, &mut Tokens<'_>, usize, Kind) -> Result<Inside, Fail>> Gramma
         ensures { Reads (reads_part self.now.depth spec.JoinedOn tokens.old) result tokens.new }
     {
         tokens.expect(Mark::Keyword(Keyword::Join))?;
-        let with = Held::new(self.factor(tokens)?);
-        tokens.expect(Mark::Keyword(Keyword::On))?;
-        let condition = Boxed::new(self.alloc, self.inner(tokens)?)?;
-        Ok((with.into_inner(), condition))
+        let with = self.factor(tokens);
+        let with = until(tokens, Mark::Keyword(Keyword::On), with)?;
+        joined_on_of(self.alloc, with, self.inner(tokens))
     }
 
     #[tactic(auto, using(crate::proofs::Step::gives))]
@@ -376,20 +259,10 @@ impl<F: Fn(Global, &mut Tokens<'_>, usize, Kind) -> Result<Inside, Fail>> Gramma
         }
         if tokens.eat(Mark::Keyword(Keyword::Left)) {
             tokens.eat(Mark::Word("outer"));
-            let (with, condition) = self.joined_on(tokens)?;
-            return Ok(Join {
-                kind: JoinKind::Left,
-                with,
-                condition: Some(condition),
-            });
+            return join_of(JoinKind::Left, self.joined_on(tokens));
         }
         tokens.eat(Mark::Keyword(Keyword::Inner));
-        let (with, condition) = self.joined_on(tokens)?;
-        Ok(Join {
-            kind: JoinKind::Inner,
-            with,
-            condition: Some(condition),
-        })
+        join_of(JoinKind::Inner, self.joined_on(tokens))
     }
 
     // [(arguments)]
@@ -412,8 +285,7 @@ impl<F: Fn(Global, &mut Tokens<'_>, usize, Kind) -> Result<Inside, Fail>> Gramma
         if tokens.sees(Mark::Name) {
             let name = tokens.table_name()?;
             let arguments = self.call(tokens)?;
-            let alias = self.alias(tokens)?;
-            return source_of(name, arguments, alias);
+            return source_of(name, arguments, alias(tokens));
         }
         tokens.expect(Mark::Sign(Sign::Open))?;
         self.factor_in_brackets(tokens)
@@ -426,13 +298,11 @@ impl<F: Fn(Global, &mut Tokens<'_>, usize, Kind) -> Result<Inside, Fail>> Gramma
         ensures { Reads (reads_part self.now.depth spec.FactorInBrackets tokens.old) result tokens.new }
     {
         if tokens.sees(Mark::Keyword(Keyword::Select)) {
-            let query = Boxed::new(self.alloc, self.inner_query(tokens)?)?;
-            tokens.expect(Mark::Sign(Sign::Close))?;
-            let alias = self.alias(tokens)?;
-            return Ok(From::Subquery { query, alias });
+            let query = self.inner_query(tokens);
+            let query = until(tokens, Mark::Sign(Sign::Close), query)?;
+            return subquery_of(self.alloc, query, alias(tokens));
         }
-        let inner = Held::new(self.inner_source(tokens)?);
-        tokens.expect(Mark::Sign(Sign::Close))?;
-        Ok(inner.into_inner())
+        let inner = self.inner_source(tokens);
+        until(tokens, Mark::Sign(Sign::Close), inner)
     }
 }

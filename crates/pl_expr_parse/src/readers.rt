@@ -5,9 +5,11 @@ ghost use Rattle.pl_expr_parse.specs.Grammar as spec;
 ghost use Rattle.pl_expr_parse.specs.Finished.{reads_front};
 
 use crate::grammar::Grammar;
+use crate::names::{alias, type_name};
 use crate::parse::inside;
 use pl_base::{Boxed, List, Name, Ty};
-use pl_grammar::{Fail, Tokens};
+use pl_grammar::{Fail, Mark, Tokens};
+use pl_lex::Keyword;
 use pl_tree::{Argument, Expr, From, Item, Key, Query};
 use std::alloc::Global;
 
@@ -96,7 +98,7 @@ pub fn read_sources(alloc: Global, tokens: &mut Tokens<'_>) -> Result<List<From>
 }
 
 /// What WHERE asks, if it is there.
-#[tactic(auto, unfolding(crate::specs::Finished::reads_front))]
+#[tactic(auto, using(crate::proofs::Step::gives_all), unfolding(crate::specs::Finished::reads_front))]
 pub fn read_condition(alloc: Global, tokens: &mut Tokens<'_>) -> Result<Option<Boxed<Expr>>, Fail>
     ensures { Reads (reads_front spec.Condition tokens.old) result tokens.new }
 {
@@ -106,7 +108,7 @@ pub fn read_condition(alloc: Global, tokens: &mut Tokens<'_>) -> Result<Option<B
         depth,
         inside,
     }
-    .condition(tokens)
+    .optional(tokens, Mark::Keyword(Keyword::Where))
 }
 
 /// The keys of GROUP BY, if it is there.
@@ -124,7 +126,7 @@ pub fn read_groups(alloc: Global, tokens: &mut Tokens<'_>) -> Result<List<Expr>,
 }
 
 /// What HAVING asks, if it is there.
-#[tactic(auto, unfolding(crate::specs::Finished::reads_front))]
+#[tactic(auto, using(crate::proofs::Step::gives_all), unfolding(crate::specs::Finished::reads_front))]
 pub fn read_having(alloc: Global, tokens: &mut Tokens<'_>) -> Result<Option<Boxed<Expr>>, Fail>
     ensures { Reads (reads_front spec.Having tokens.old) result tokens.new }
 {
@@ -134,7 +136,7 @@ pub fn read_having(alloc: Global, tokens: &mut Tokens<'_>) -> Result<Option<Boxe
         depth,
         inside,
     }
-    .having(tokens)
+    .optional(tokens, Mark::Keyword(Keyword::Having))
 }
 
 /// The keys of ORDER BY, if it is there.
@@ -187,13 +189,7 @@ pub fn read_arguments(alloc: Global, tokens: &mut Tokens<'_>) -> Result<List<Arg
 pub fn read_alias(alloc: Global, tokens: &mut Tokens<'_>) -> Result<Option<Name>, Fail>
     ensures { Reads (reads_front spec.Alias tokens.old) result tokens.new }
 {
-    let depth = tokens.depth_bound();
-    Grammar {
-        alloc,
-        depth,
-        inside,
-    }
-    .alias(tokens)
+    alias(tokens)
 }
 
 /// A type.
@@ -201,11 +197,5 @@ pub fn read_alias(alloc: Global, tokens: &mut Tokens<'_>) -> Result<Option<Name>
 pub fn read_type(alloc: Global, tokens: &mut Tokens<'_>) -> Result<Ty, Fail>
     ensures { Reads (reads_front spec.TypeName tokens.old) result tokens.new }
 {
-    let depth = tokens.depth_bound();
-    Grammar {
-        alloc,
-        depth,
-        inside,
-    }
-    .type_name(tokens)
+    type_name(tokens)
 }

@@ -1,15 +1,18 @@
-use Rattle.std.proofs.Common.{rules, arith}
-use Rattle.pl_expr_parse.specs.Grammar.{Sum}
+use Rattle.std.proofs.Common.{[], Some, length, rules}
+use Rattle.pl_grammar.specs.Forms.{alone, by}
+use Rattle.pl_grammar.specs.Parser.{links_from}
+use Rattle.pl_grammar.specs.Words.{BARS}
+use Rattle.pl_expr_parse.specs.Grammar.{Concatenation, Sum}
+use Rattle.pl_expr_parse.specs.Trees.{concatenation_of}
 use Rattle.pl_expr_parse.specs.FirstFollow.{reads_part}
-use Rattle.pl_expr_parse.proofs.Step.{gives}
+use Rattle.pl_expr_parse.proofs.Step.{gives_all}
+use Rattle.pl_expr_parse.proofs.Follows.{second}
 use Rattle.pl_expr_parse.proofs.grammar.Grammar.concatenation.Goals as goal
-
-pub returns-in_err-more : goal.returns-in_err-more
-returns-in_err-more g c =
-    let more = c.in_err-more.ensures (reads_part c.args.self.now.depth Sum) (record { reads = λ old new r h. search rules }) in
-    first_of (search (rules, gives), grind (arith, gives))
 
 pub returns : goal.returns
 returns g c =
-    let more = c.in_ok-more.ensures (reads_part c.args.self.now.depth Sum) (record { reads = λ old new r h. search rules }) in
-    first_of (search (rules, gives), grind (arith, gives))
+    let item = reads_part c.args.self.now.depth Sum in
+    gives_all c.args.self.now.depth Concatenation c.args.tokens.now c.concatenation_of.result c.links-more.new.tokens
+    (second (λ p. Some (concatenation_of p.0 p.1)) (item c.args.tokens.now) (λ ts. links_from (by BARS) item alone (length ts) [] ts)
+    c.in_ok-first.first c.links-more.result c.concatenation_of.result c.sum.new.tokens c.links-more.new.tokens
+    c.in_ok-first.ensures (c.links-more.ensures item (record { reads = λ old new r h. search rules })) c.concatenation_of.ensures)

@@ -1,15 +1,18 @@
-use Rattle.std.proofs.Common.{rules, arith}
-use Rattle.pl_expr_parse.specs.Grammar.{Join}
-use Rattle.pl_expr_parse.specs.FirstFollow.{reads_part}
-use Rattle.pl_expr_parse.proofs.Step.{gives}
+use Rattle.std.proofs.Common.{[], Some, length, rules}
+use Rattle.pl_grammar.specs.Parser.{many_from}
+use Rattle.pl_expr_parse.specs.Grammar.{From, Join, Factor}
+use Rattle.pl_expr_parse.specs.Trees.{joined_of}
+use Rattle.pl_expr_parse.specs.FirstFollow.{reads, reads_part, firsts}
+use Rattle.pl_expr_parse.proofs.Step.{gives_all}
+use Rattle.pl_expr_parse.proofs.Follows.{second}
 use Rattle.pl_expr_parse.proofs.grammar.Grammar.source.Goals as goal
-
-pub returns-in_err-joins : goal.returns-in_err-joins
-returns-in_err-joins g c =
-    let more = c.in_err-joins.ensures (reads_part c.args.self.now.depth Join) (record { reads = λ old new r h. search rules }) in
-    first_of (search (rules, gives), grind (arith, gives))
 
 pub returns : goal.returns
 returns g c =
-    let more = c.in_ok-joins.ensures (reads_part c.args.self.now.depth Join) (record { reads = λ old new r h. search rules }) in
-    first_of (search (rules, gives), grind (arith, gives))
+    let d = c.args.self.now.depth in
+    let ts = c.args.tokens.now in
+    let join = reads_part d Join in
+    gives_all d From ts c.joined_of.result c.many-joins.new.tokens
+    (second (λ p. Some (joined_of p.0 p.1)) (reads_part d Factor ts) (λ ts. many_from (firsts Join) join (length ts) [] ts)
+    c.in_ok-first.first c.many-joins.result c.joined_of.result c.factor.new.tokens c.many-joins.new.tokens
+    c.in_ok-first.ensures (c.many-joins.ensures join (record { reads = λ old new r h. search rules })) c.joined_of.ensures)
