@@ -8,7 +8,6 @@ pub mod Placed
 pub mod Which
 pub mod Calls
 pub mod OneCommand
-pub mod Results
 pub mod Procedures
 pub mod LeftOut
 pub mod Lent

@@ -4,7 +4,6 @@ ghost use Rattle.pl_grammar.specs.Parser.{Reads};
 ghost use Rattle.pl_sql_parse.specs.Grammar as spec;
 ghost use Rattle.pl_sql_parse.specs.FirstFollow.{reads_part};
 
-use crate::drops::drop_object;
 use crate::routines::new_routine;
 use crate::tables::new_table;
 use crate::triggers::new_trigger;
@@ -14,7 +13,6 @@ use pl_tree::Definition;
 use std::alloc::Global;
 
 // CREATE, behind that word.
-#[tactic(auto, using(crate::proofs::Step::gives))]
 pub(crate) fn create(alloc: Global, tokens: &mut Tokens<'_>) -> Result<Definition, Fail>
     ensures { Reads (reads_part spec.Create tokens.old) result tokens.new }
 {
@@ -25,16 +23,4 @@ pub(crate) fn create(alloc: Global, tokens: &mut Tokens<'_>) -> Result<Definitio
         return new_trigger(alloc, tokens);
     }
     new_routine(alloc, tokens)
-}
-
-// CREATE or DROP
-#[tactic(auto, using(crate::proofs::Step::gives))]
-pub(crate) fn definition(alloc: Global, tokens: &mut Tokens<'_>) -> Result<Definition, Fail>
-    ensures { Reads (reads_part spec.Definition tokens.old) result tokens.new }
-{
-    if tokens.eat(Mark::Keyword(Keyword::Create)) {
-        return create(alloc, tokens);
-    }
-    tokens.expect(Mark::Word("drop"))?;
-    drop_object(alloc, tokens)
 }

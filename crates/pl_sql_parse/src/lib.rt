@@ -1,11 +1,23 @@
 //! Commands, read from tokens: PostgreSQL manual, "SQL Commands".
 #![tactic(auto)]
 
+// What was read, or the same refusal handed on. It is `?` without its conversion of the error,
+// whose proof would be paid for at each of 170 places.
+macro_rules! read {
+    ($outcome:expr) => {
+        match $outcome {
+            Ok(value) => value,
+            Err(fail) => return Err(fail),
+        }
+    };
+}
+
 mod changes;
 mod commands;
 mod definitions;
 mod drops;
 mod left_out;
+mod lists;
 mod parse;
 mod parts;
 mod readers;

@@ -14,26 +14,49 @@ ghost use Rattle.pl_sql_parse.specs.Spells.{begins_definition};
 ghost use Rattle.pl_lex.specs.Slices.{slice_of};
 
 use crate::commands::command;
-use crate::definitions::definition;
 use crate::left_out::is_left_out;
+use crate::lists::{Piece, whole_piece};
+use crate::readers::read_definition;
 use pl_base::{Held, Txt};
-use pl_grammar::{Fail, Mark, ParseFail, Tokens, deep, whole};
+use pl_grammar::{Fail, Mark, ParseFail, Tokens, deep};
 use pl_lex::{Keyword, Token};
 use pl_tree::{Command, Definition};
 use std::alloc::{AllocError, Global};
+
+impl Piece for Command {
+    ghost use Rattle.pl_sql_parse.specs.Grammar as spec;
+    ghost use Rattle.pl_sql_parse.specs.FirstFollow.{reads_part};
+
+    ghost reader = { reads_part spec.Command };
+
+    fn read(alloc: Global, tokens: &mut Tokens<'_>) -> Result<Command, Fail> {
+        command(alloc, tokens)
+    }
+}
 
 // The whole list as one command that defines nothing.
 fn whole_command(alloc: Global, tokens: &[Token]) -> Result<Command, Fail>
     ensures { ReadsAll (reads_part spec.Command (kinds tokens.now)) result }
 {
-    whole(tokens, |rest| command(alloc, rest))
+    whole_piece(alloc, tokens)
+}
+
+impl Piece for Definition {
+    ghost use Rattle.pl_sql_parse.specs.Grammar as spec;
+    ghost use Rattle.pl_sql_parse.specs.FirstFollow.{reads_part};
+
+    ghost reader = { reads_part spec.Definition };
+
+    fn read(alloc: Global, tokens: &mut Tokens<'_>) -> Result<Definition, Fail> {
+        read_definition(alloc, tokens)
+    }
 }
 
 // The whole list as one definition.
 fn whole_definition(alloc: Global, tokens: &[Token]) -> Result<Definition, Fail>
     ensures { ReadsAll (reads_part spec.Definition (kinds tokens.now)) result }
 {
-    whole(tokens, |rest| definition(alloc, rest))
+    whole_piece(alloc, tokens)
 }
 
 /// The text from the first byte of the first token to the last byte of the last.

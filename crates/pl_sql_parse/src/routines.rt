@@ -6,11 +6,12 @@ ghost use Rattle.pl_grammar.specs.Words as w;
 ghost use Rattle.pl_sql_parse.specs.Grammar as spec;
 ghost use Rattle.pl_sql_parse.specs.FirstFollow.{reads_part};
 
+use crate::lists::{Piece, all_pieces, pieces};
 use crate::parts::Clause;
 use crate::trees::routine_of;
 use pl_base::{List, Name, Txt, Ty};
 use pl_expr_parse::read_type;
-use pl_grammar::{Fail, Mark, Tokens, list, many};
+use pl_grammar::{Fail, Mark, Tokens, list};
 use pl_lex::{Keyword, Sign};
 use pl_tree::{Definition, Param, ResultType, RoutineKind, Way};
 use std::alloc::Global;
@@ -25,32 +26,30 @@ const CLAUSES: [Mark; 5] = [
 ];
 
 // [name] type
-#[tactic(auto, using(crate::proofs::Step::gives, crate::proofs::Step::then_reads, crate::proofs::Step::else_reads))]
 pub(crate) fn named_type(alloc: Global, tokens: &mut Tokens<'_>) -> Result<(Option<Name>, Ty), Fail>
     ensures { Reads (reads_part spec.NamedType tokens.old) result tokens.new }
 {
     if tokens.sees_two(Mark::Name, Mark::Name) {
-        let name = tokens.name()?;
-        return Ok((Some(name), read_type(alloc, tokens)?));
+        let name = read!(tokens.name());
+        return Ok((Some(name), read!(read_type(alloc, tokens))));
     }
-    Ok((None, read_type(alloc, tokens)?))
+    Ok((None, read!(read_type(alloc, tokens))))
 }
 
 // (OUT | INOUT) [name] type
-#[tactic(auto, using(crate::proofs::Step::gives))]
 pub(crate) fn way_param(alloc: Global, tokens: &mut Tokens<'_>) -> Result<Param, Fail>
     ensures { Reads (reads_part spec.WayParam tokens.old) result tokens.new }
 {
     if tokens.eat(Mark::Word("out")) {
-        let (name, ty) = named_type(alloc, tokens)?;
+        let (name, ty) = read!(named_type(alloc, tokens));
         return Ok(Param {
             way: Way::Out,
             name,
             ty,
         });
     }
-    tokens.expect(Mark::Word("inout"))?;
-    let (name, ty) = named_type(alloc, tokens)?;
+    read!(tokens.expect(Mark::Word("inout")));
+    let (name, ty) = read!(named_type(alloc, tokens));
     Ok(Param {
         way: Way::InOut,
         name,
@@ -67,12 +66,11 @@ fn has_way(tokens: &Tokens<'_>) -> bool
 }
 
 // [IN | OUT | INOUT] [name] type
-#[tactic(auto, using(crate::proofs::Step::gives, crate::proofs::Step::then_reads, crate::proofs::Step::else_reads))]
 pub(crate) fn param(alloc: Global, tokens: &mut Tokens<'_>) -> Result<Param, Fail>
     ensures { Reads (reads_part spec.Param tokens.old) result tokens.new }
 {
     if tokens.eat(Mark::Keyword(Keyword::In)) {
-        let (name, ty) = named_type(alloc, tokens)?;
+        let (name, ty) = read!(named_type(alloc, tokens));
         return Ok(Param {
             way: Way::In,
             name,
@@ -82,7 +80,7 @@ pub(crate) fn param(alloc: Global, tokens: &mut Tokens<'_>) -> Result<Param, Fai
     if has_way(tokens) {
         return way_param(alloc, tokens);
     }
-    let (name, ty) = named_type(alloc, tokens)?;
+    let (name, ty) = read!(named_type(alloc, tokens));
     Ok(Param {
         way: Way::In,
         name,
@@ -90,39 +88,43 @@ pub(crate) fn param(alloc: Global, tokens: &mut Tokens<'_>) -> Result<Param, Fai
     })
 }
 
+impl Piece for Param {
+    ghost use Rattle.pl_sql_parse.specs.Grammar as spec;
+    ghost use Rattle.pl_sql_parse.specs.FirstFollow.{reads_part};
+
+    ghost reader = { reads_part spec.Param };
+
+    fn read(alloc: Global, tokens: &mut Tokens<'_>) -> Result<Param, Fail> {
+        param(alloc, tokens)
+    }
+}
+
 // param {, param}
 fn param_list(alloc: Global, tokens: &mut Tokens<'_>) -> Result<List<Param>, Fail>
     ensures { Reads (listed w.COMMA (reads_part spec.Param) tokens.old) result tokens.new }
 {
-    list(
-        alloc,
-        tokens,
-        Mark::Sign(Sign::Comma),
-        |tokens| param(alloc, tokens),
-    )
+    pieces(alloc, tokens)
 }
 
 // [param {, param}])
-#[tactic(auto, using(crate::proofs::Step::gives))]
 pub(crate) fn params(alloc: Global, tokens: &mut Tokens<'_>) -> Result<List<Param>, Fail>
     ensures { Reads (reads_part spec.Params tokens.old) result tokens.new }
 {
     if tokens.eat(Mark::Sign(Sign::Close)) {
         return Ok(List::new(alloc));
     }
-    let params = param_list(alloc, tokens)?;
-    tokens.expect(Mark::Sign(Sign::Close))?;
+    let params = read!(param_list(alloc, tokens));
+    read!(tokens.expect(Mark::Sign(Sign::Close)));
     Ok(params)
 }
 
 // name([param {, param}])
-#[tactic(auto, using(crate::proofs::Step::gives))]
 pub(crate) fn signature(alloc: Global, tokens: &mut Tokens<'_>) -> Result<(Name, List<Param>), Fail>
     ensures { Reads (reads_part spec.Signature tokens.old) result tokens.new }
 {
-    let name = tokens.name()?;
-    tokens.expect(Mark::Sign(Sign::Open))?;
-    Ok((name, params(alloc, tokens)?))
+    let name = read!(tokens.name());
+    read!(tokens.expect(Mark::Sign(Sign::Open)));
+    Ok((name, read!(params(alloc, tokens))))
 }
 
 // name | text
@@ -131,22 +133,21 @@ pub(crate) fn language_name(alloc: Global, tokens: &mut Tokens<'_>) -> Result<Tx
     ensures { Reads (reads_part spec.LanguageName tokens.old) result tokens.new }
 {
     if tokens.sees(Mark::Name) {
-        let name = tokens.name()?;
+        let name = read!(tokens.name());
         return Ok(Txt::from_slice(alloc, name.as_bytes())?);
     }
     tokens.text(alloc)
 }
 
 // A clause of a routine.
-#[tactic(auto, using(crate::proofs::Step::gives))]
 pub(crate) fn clause(alloc: Global, tokens: &mut Tokens<'_>) -> Result<Clause, Fail>
     ensures { Reads (reads_part spec.Clause tokens.old) result tokens.new }
 {
     if tokens.eat(Mark::Word("language")) {
-        return Ok(Clause::Language(language_name(alloc, tokens)?));
+        return Ok(Clause::Language(read!(language_name(alloc, tokens))));
     }
     if tokens.eat(Mark::Keyword(Keyword::As)) {
-        return Ok(Clause::Body(tokens.text(alloc)?));
+        return Ok(Clause::Body(read!(tokens.text(alloc))));
     }
     if tokens.eat(Mark::Word("immutable")) {
         return Ok(Clause::Volatility);
@@ -154,25 +155,34 @@ pub(crate) fn clause(alloc: Global, tokens: &mut Tokens<'_>) -> Result<Clause, F
     if tokens.eat(Mark::Word("stable")) {
         return Ok(Clause::Volatility);
     }
-    tokens.expect(Mark::Word("volatile"))?;
+    read!(tokens.expect(Mark::Word("volatile")));
     Ok(Clause::Volatility)
 }
 
+impl Piece for Clause {
+    ghost use Rattle.pl_sql_parse.specs.Grammar as spec;
+    ghost use Rattle.pl_sql_parse.specs.FirstFollow.{reads_part};
+
+    ghost reader = { reads_part spec.Clause };
+
+    fn read(alloc: Global, tokens: &mut Tokens<'_>) -> Result<Clause, Fail> {
+        clause(alloc, tokens)
+    }
+}
+
 // {clause}
-#[tactic(auto, using(crate::proofs::Step::gives))]
 pub(crate) fn clauses(alloc: Global, tokens: &mut Tokens<'_>) -> Result<List<Clause>, Fail>
     ensures { Reads (reads_part spec.Clauses tokens.old) result tokens.new }
 {
-    many(alloc, tokens, &CLAUSES, |tokens| clause(alloc, tokens))
+    all_pieces(alloc, tokens, &CLAUSES)
 }
 
 // name type
-#[tactic(auto, using(crate::proofs::Step::gives))]
 pub(crate) fn result_column(alloc: Global, tokens: &mut Tokens<'_>) -> Result<Param, Fail>
     ensures { Reads (reads_part spec.ResultColumn tokens.old) result tokens.new }
 {
-    let name = tokens.name()?;
-    let ty = read_type(alloc, tokens)?;
+    let name = read!(tokens.name());
+    let ty = read!(read_type(alloc, tokens));
     Ok(Param {
         way: Way::Out,
         name: Some(name),
@@ -193,18 +203,16 @@ fn column_list(alloc: Global, tokens: &mut Tokens<'_>) -> Result<List<Param>, Fa
 }
 
 // (column {, column})
-#[tactic(auto, using(crate::proofs::Step::gives))]
 pub(crate) fn result_columns(alloc: Global, tokens: &mut Tokens<'_>) -> Result<List<Param>, Fail>
     ensures { Reads (reads_part spec.ResultColumns tokens.old) result tokens.new }
 {
-    tokens.expect(Mark::Sign(Sign::Open))?;
-    let columns = column_list(alloc, tokens)?;
-    tokens.expect(Mark::Sign(Sign::Close))?;
+    read!(tokens.expect(Mark::Sign(Sign::Open)));
+    let columns = read!(column_list(alloc, tokens));
+    read!(tokens.expect(Mark::Sign(Sign::Close)));
     Ok(columns)
 }
 
 // TABLE columns {clause} | SETOF type {clause} | type {clause}
-#[tactic(auto, using(crate::proofs::Step::gives, crate::proofs::Step::then_reads, crate::proofs::Step::else_reads))]
 pub(crate) fn result(
     alloc: Global,
     tokens: &mut Tokens<'_>,
@@ -212,23 +220,22 @@ pub(crate) fn result(
     ensures { Reads (reads_part spec.Result tokens.old) result tokens.new }
 {
     if tokens.eat(Mark::Keyword(Keyword::Table)) {
-        let columns = result_columns(alloc, tokens)?;
-        let clauses = clauses(alloc, tokens)?;
+        let columns = read!(result_columns(alloc, tokens));
+        let clauses = read!(clauses(alloc, tokens));
         return Ok((ResultType::Columns(columns), clauses));
     }
     if tokens.sees_two(Mark::Word("setof"), Mark::Name) {
-        tokens.expect(Mark::Word("setof"))?;
-        let ty = read_type(alloc, tokens)?;
-        let clauses = clauses(alloc, tokens)?;
+        read!(tokens.expect(Mark::Word("setof")));
+        let ty = read!(read_type(alloc, tokens));
+        let clauses = read!(clauses(alloc, tokens));
         return Ok((ResultType::Set(ty), clauses));
     }
-    let ty = read_type(alloc, tokens)?;
-    let clauses = clauses(alloc, tokens)?;
+    let ty = read!(read_type(alloc, tokens));
+    let clauses = read!(clauses(alloc, tokens));
     Ok((ResultType::One(ty), clauses))
 }
 
 // [RETURNS result] {clause}
-#[tactic(auto, using(crate::proofs::Step::gives))]
 pub(crate) fn returned(
     alloc: Global,
     tokens: &mut Tokens<'_>,
@@ -238,30 +245,28 @@ pub(crate) fn returned(
     if tokens.eat(Mark::Word("returns")) {
         return result(alloc, tokens);
     }
-    Ok((ResultType::Absent, clauses(alloc, tokens)?))
+    Ok((ResultType::Absent, read!(clauses(alloc, tokens))))
 }
 
 // [OR REPLACE]
-#[tactic(auto, using(crate::proofs::Step::gives))]
 pub(crate) fn or_replace(tokens: &mut Tokens<'_>) -> Result<bool, Fail>
     ensures { Reads (reads_part spec.OrReplace tokens.old) result tokens.new }
 {
     if !tokens.eat(Mark::Keyword(Keyword::Or)) {
         return Ok(false);
     }
-    tokens.expect(Mark::Word("replace"))?;
+    read!(tokens.expect(Mark::Word("replace")));
     Ok(true)
 }
 
 // CREATE FUNCTION or CREATE PROCEDURE, behind CREATE.
-#[tactic(auto, using(crate::proofs::Step::gives))]
 pub(crate) fn new_routine(alloc: Global, tokens: &mut Tokens<'_>) -> Result<Definition, Fail>
     ensures { Reads (reads_part spec.NewRoutine tokens.old) result tokens.new }
 {
-    let or_replace = or_replace(tokens)?;
+    let or_replace = read!(or_replace(tokens));
     if tokens.eat(Mark::Word("function")) {
-        let (name, params) = signature(alloc, tokens)?;
-        let (result, clauses) = returned(alloc, tokens)?;
+        let (name, params) = read!(signature(alloc, tokens));
+        let (result, clauses) = read!(returned(alloc, tokens));
         return routine_of(
             alloc,
             or_replace,
@@ -272,9 +277,9 @@ pub(crate) fn new_routine(alloc: Global, tokens: &mut Tokens<'_>) -> Result<Defi
             clauses,
         );
     }
-    tokens.expect(Mark::Word("procedure"))?;
-    let (name, params) = signature(alloc, tokens)?;
-    let clauses = clauses(alloc, tokens)?;
+    read!(tokens.expect(Mark::Word("procedure")));
+    let (name, params) = read!(signature(alloc, tokens));
+    let clauses = read!(clauses(alloc, tokens));
     routine_of(
         alloc,
         or_replace,

@@ -6,10 +6,11 @@ ghost use Rattle.pl_sql_parse.specs.Grammar as spec;
 ghost use Rattle.pl_sql_parse.specs.FirstFollow.{reads, reads_part};
 
 use crate::changes::{bracketed_names, columns};
+use crate::lists::{Piece, all_pieces, pieces};
 use crate::trees::column_of;
 use pl_base::{Held, List};
 use pl_expr_parse::{read_expression, read_operand, read_type};
-use pl_grammar::{Fail, Mark, Tokens, list, many};
+use pl_grammar::{Fail, Mark, Tokens};
 use pl_lex::{Keyword, Sign};
 use pl_tree::{ColumnRule, ColumnRuleKind, Definition, Element, Expr, NewTable, TableRule};
 use std::alloc::Global;
@@ -35,38 +36,35 @@ const COLUMN_RULES: [Mark; 8] = [
 ];
 
 // [IF NOT EXISTS]
-#[tactic(auto, using(crate::proofs::Step::gives))]
 pub(crate) fn if_not_exists(tokens: &mut Tokens<'_>) -> Result<bool, Fail>
     ensures { Reads (reads_part spec.IfNotExists tokens.old) result tokens.new }
 {
     if !tokens.eat(Mark::Keyword(Keyword::If)) {
         return Ok(false);
     }
-    tokens.expect(Mark::Keyword(Keyword::Not))?;
-    tokens.expect(Mark::Keyword(Keyword::Exists))?;
+    read!(tokens.expect(Mark::Keyword(Keyword::Not)));
+    read!(tokens.expect(Mark::Keyword(Keyword::Exists)));
     Ok(true)
 }
 
 // (e)
-#[tactic(auto, using(crate::proofs::Step::gives))]
 pub(crate) fn bracketed_expression(alloc: Global, tokens: &mut Tokens<'_>) -> Result<Expr, Fail>
     ensures { Reads (reads_part spec.BracketedExpression tokens.old) result tokens.new }
 {
-    tokens.expect(Mark::Sign(Sign::Open))?;
-    let expression = Held::new(read_expression(alloc, tokens)?);
-    tokens.expect(Mark::Sign(Sign::Close))?;
+    read!(tokens.expect(Mark::Sign(Sign::Open)));
+    let expression = Held::new(read!(read_expression(alloc, tokens)));
+    read!(tokens.expect(Mark::Sign(Sign::Close)));
     Ok(expression.into_inner())
 }
 
 // (names) REFERENCES name [(names)]
-#[tactic(auto, using(crate::proofs::Step::gives))]
 pub(crate) fn foreign_key(alloc: Global, tokens: &mut Tokens<'_>) -> Result<TableRule, Fail>
     ensures { Reads (reads_part spec.ForeignKey tokens.old) result tokens.new }
 {
-    let key = bracketed_names(alloc, tokens)?;
-    tokens.expect(Mark::Keyword(Keyword::References))?;
-    let table = tokens.table_name()?;
-    let referenced = columns(alloc, tokens)?;
+    let key = read!(bracketed_names(alloc, tokens));
+    read!(tokens.expect(Mark::Keyword(Keyword::References)));
+    let table = read!(tokens.table_name());
+    let referenced = read!(columns(alloc, tokens));
     Ok(TableRule::ForeignKey {
         columns: key,
         table,
@@ -75,39 +73,37 @@ pub(crate) fn foreign_key(alloc: Global, tokens: &mut Tokens<'_>) -> Result<Tabl
 }
 
 // A rule of the whole table.
-#[tactic(auto, using(crate::proofs::Step::gives))]
 pub(crate) fn table_rule(alloc: Global, tokens: &mut Tokens<'_>) -> Result<TableRule, Fail>
     ensures { Reads (reads_part spec.TableRule tokens.old) result tokens.new }
 {
     if tokens.eat(Mark::Keyword(Keyword::Check)) {
-        return Ok(TableRule::Check(bracketed_expression(alloc, tokens)?));
+        return Ok(TableRule::Check(read!(bracketed_expression(alloc, tokens))));
     }
     if tokens.eat(Mark::Keyword(Keyword::Unique)) {
-        return Ok(TableRule::Unique(bracketed_names(alloc, tokens)?));
+        return Ok(TableRule::Unique(read!(bracketed_names(alloc, tokens))));
     }
     if tokens.eat(Mark::Keyword(Keyword::Primary)) {
-        tokens.expect(Mark::Word("key"))?;
-        return Ok(TableRule::PrimaryKey(bracketed_names(alloc, tokens)?));
+        read!(tokens.expect(Mark::Word("key")));
+        return Ok(TableRule::PrimaryKey(read!(bracketed_names(alloc, tokens))));
     }
-    tokens.expect(Mark::Keyword(Keyword::Foreign))?;
-    tokens.expect(Mark::Word("key"))?;
+    read!(tokens.expect(Mark::Keyword(Keyword::Foreign)));
+    read!(tokens.expect(Mark::Word("key")));
     foreign_key(alloc, tokens)
 }
 
 // name [(name)]
-#[tactic(auto, using(crate::proofs::Step::gives))]
 pub(crate) fn referenced(tokens: &mut Tokens<'_>) -> Result<ColumnRuleKind, Fail>
     ensures { Reads (reads_part spec.Referenced tokens.old) result tokens.new }
 {
-    let table = tokens.table_name()?;
+    let table = read!(tokens.table_name());
     if !tokens.eat(Mark::Sign(Sign::Open)) {
         return Ok(ColumnRuleKind::References {
             table,
             column: None,
         });
     }
-    let column = tokens.name()?;
-    tokens.expect(Mark::Sign(Sign::Close))?;
+    let column = read!(tokens.name());
+    read!(tokens.expect(Mark::Sign(Sign::Close)));
     Ok(ColumnRuleKind::References {
         table,
         column: Some(column),
@@ -119,21 +115,20 @@ fn other_rule_kind(alloc: Global, tokens: &mut Tokens<'_>) -> Result<ColumnRuleK
     ensures { Reads (reads spec.other_rule_kind tokens.old) result tokens.new }
 {
     if tokens.eat(Mark::Keyword(Keyword::Check)) {
-        return Ok(ColumnRuleKind::Check(bracketed_expression(alloc, tokens)?));
+        return Ok(ColumnRuleKind::Check(read!(bracketed_expression(alloc, tokens))));
     }
     if tokens.eat(Mark::Keyword(Keyword::Unique)) {
         return Ok(ColumnRuleKind::Unique);
     }
     if tokens.eat(Mark::Keyword(Keyword::Primary)) {
-        tokens.expect(Mark::Word("key"))?;
+        read!(tokens.expect(Mark::Word("key")));
         return Ok(ColumnRuleKind::PrimaryKey);
     }
-    tokens.expect(Mark::Keyword(Keyword::References))?;
+    read!(tokens.expect(Mark::Keyword(Keyword::References)));
     referenced(tokens)
 }
 
 // What a rule of a column asks.
-#[tactic(auto, using(crate::proofs::Step::gives))]
 pub(crate) fn column_rule_kind(
     alloc: Global,
     tokens: &mut Tokens<'_>,
@@ -141,101 +136,108 @@ pub(crate) fn column_rule_kind(
     ensures { Reads (reads_part spec.ColumnRuleKind tokens.old) result tokens.new }
 {
     if tokens.eat(Mark::Keyword(Keyword::Not)) {
-        tokens.expect(Mark::Keyword(Keyword::Null))?;
+        read!(tokens.expect(Mark::Keyword(Keyword::Null)));
         return Ok(ColumnRuleKind::NotNull);
     }
     if tokens.eat(Mark::Keyword(Keyword::Null)) {
         return Ok(ColumnRuleKind::Null);
     }
     if tokens.eat(Mark::Keyword(Keyword::Default)) {
-        return Ok(ColumnRuleKind::Default(read_operand(alloc, tokens)?));
+        return Ok(ColumnRuleKind::Default(read!(read_operand(alloc, tokens))));
     }
     other_rule_kind(alloc, tokens)
 }
 
 // [CONSTRAINT name] rule
-#[tactic(auto, using(crate::proofs::Step::gives))]
 pub(crate) fn column_rule(alloc: Global, tokens: &mut Tokens<'_>) -> Result<ColumnRule, Fail>
     ensures { Reads (reads_part spec.ColumnRule tokens.old) result tokens.new }
 {
     if tokens.eat(Mark::Keyword(Keyword::Constraint)) {
-        let name = tokens.name()?;
-        let rule = column_rule_kind(alloc, tokens)?;
+        let name = read!(tokens.name());
+        let rule = read!(column_rule_kind(alloc, tokens));
         return Ok(ColumnRule {
             name: Some(name),
             rule,
         });
     }
-    let rule = column_rule_kind(alloc, tokens)?;
+    let rule = read!(column_rule_kind(alloc, tokens));
     Ok(ColumnRule { name: None, rule })
 }
 
+impl Piece for ColumnRule {
+    ghost use Rattle.pl_sql_parse.specs.Grammar as spec;
+    ghost use Rattle.pl_sql_parse.specs.FirstFollow.{reads_part};
+
+    ghost reader = { reads_part spec.ColumnRule };
+
+    fn read(alloc: Global, tokens: &mut Tokens<'_>) -> Result<ColumnRule, Fail> {
+        column_rule(alloc, tokens)
+    }
+}
+
 // {rule}
-#[tactic(auto, using(crate::proofs::Step::gives))]
 pub(crate) fn column_rules(alloc: Global, tokens: &mut Tokens<'_>) -> Result<List<ColumnRule>, Fail>
     ensures { Reads (reads_part spec.ColumnRules tokens.old) result tokens.new }
 {
-    many(
-        alloc,
-        tokens,
-        &COLUMN_RULES,
-        |tokens| column_rule(alloc, tokens),
-    )
+    all_pieces(alloc, tokens, &COLUMN_RULES)
 }
 
 // name type {rule}
-#[tactic(auto, using(crate::proofs::Step::gives))]
 pub(crate) fn column(alloc: Global, tokens: &mut Tokens<'_>) -> Result<Element, Fail>
     ensures { Reads (reads_part spec.Column tokens.old) result tokens.new }
 {
-    let name = tokens.name()?;
-    let ty = read_type(alloc, tokens)?;
-    let rules = column_rules(alloc, tokens)?;
+    let name = read!(tokens.name());
+    let ty = read!(read_type(alloc, tokens));
+    let rules = read!(column_rules(alloc, tokens));
     column_of(name, ty, rules)
 }
 
 // A column, or a rule of the whole table.
-#[tactic(auto, using(crate::proofs::Step::gives))]
 pub(crate) fn element(alloc: Global, tokens: &mut Tokens<'_>) -> Result<Element, Fail>
     ensures { Reads (reads_part spec.Element tokens.old) result tokens.new }
 {
     if tokens.eat(Mark::Keyword(Keyword::Constraint)) {
-        let name = tokens.name()?;
-        let rule = table_rule(alloc, tokens)?;
+        let name = read!(tokens.name());
+        let rule = read!(table_rule(alloc, tokens));
         return Ok(Element::Rule {
             name: Some(name),
             rule,
         });
     }
     if tokens.begins(&TABLE_RULES) {
-        let rule = table_rule(alloc, tokens)?;
+        let rule = read!(table_rule(alloc, tokens));
         return Ok(Element::Rule { name: None, rule });
     }
     column(alloc, tokens)
+}
+
+impl Piece for Element {
+    ghost use Rattle.pl_sql_parse.specs.Grammar as spec;
+    ghost use Rattle.pl_sql_parse.specs.FirstFollow.{reads_part};
+
+    ghost reader = { reads_part spec.Element };
+
+    fn read(alloc: Global, tokens: &mut Tokens<'_>) -> Result<Element, Fail> {
+        element(alloc, tokens)
+    }
 }
 
 // element {, element}
 fn element_list(alloc: Global, tokens: &mut Tokens<'_>) -> Result<List<Element>, Fail>
     ensures { Reads (listed w.COMMA (reads_part spec.Element) tokens.old) result tokens.new }
 {
-    list(
-        alloc,
-        tokens,
-        Mark::Sign(Sign::Comma),
-        |tokens| element(alloc, tokens),
-    )
+    pieces(alloc, tokens)
 }
 
 // CREATE TABLE, behind these words.
-#[tactic(auto, using(crate::proofs::Step::gives))]
 pub(crate) fn new_table(alloc: Global, tokens: &mut Tokens<'_>) -> Result<Definition, Fail>
     ensures { Reads (reads_part spec.NewTable tokens.old) result tokens.new }
 {
-    let if_not_exists = if_not_exists(tokens)?;
-    let name = tokens.table_name()?;
-    tokens.expect(Mark::Sign(Sign::Open))?;
-    let elements = element_list(alloc, tokens)?;
-    tokens.expect(Mark::Sign(Sign::Close))?;
+    let if_not_exists = read!(if_not_exists(tokens));
+    let name = read!(tokens.table_name());
+    read!(tokens.expect(Mark::Sign(Sign::Open)));
+    let elements = read!(element_list(alloc, tokens));
+    read!(tokens.expect(Mark::Sign(Sign::Close)));
     Ok(Definition::CreateTable(NewTable {
         if_not_exists,
         name,

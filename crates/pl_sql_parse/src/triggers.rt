@@ -11,19 +11,17 @@ use pl_tree::{Definition, NewTrigger, Timing, TriggerEvent};
 use std::alloc::Global;
 
 // BEFORE | AFTER
-#[tactic(auto, using(crate::proofs::Step::gives))]
 pub(crate) fn timing(tokens: &mut Tokens<'_>) -> Result<Timing, Fail>
     ensures { Reads (reads_part spec.Timing tokens.old) result tokens.new }
 {
     if tokens.eat(Mark::Word("before")) {
         return Ok(Timing::Before);
     }
-    tokens.expect(Mark::Word("after"))?;
+    read!(tokens.expect(Mark::Word("after")));
     Ok(Timing::After)
 }
 
 // INSERT | UPDATE | DELETE
-#[tactic(auto, using(crate::proofs::Step::gives))]
 pub(crate) fn event(tokens: &mut Tokens<'_>) -> Result<TriggerEvent, Fail>
     ensures { Reads (reads_part spec.Event tokens.old) result tokens.new }
 {
@@ -33,56 +31,48 @@ pub(crate) fn event(tokens: &mut Tokens<'_>) -> Result<TriggerEvent, Fail>
     if tokens.eat(Mark::Keyword(Keyword::Update)) {
         return Ok(TriggerEvent::Update);
     }
-    tokens.expect(Mark::Keyword(Keyword::Delete))?;
+    read!(tokens.expect(Mark::Keyword(Keyword::Delete)));
     Ok(TriggerEvent::Delete)
 }
 
 // event {OR event}
-#[tactic(auto, using(crate::proofs::Step::gives))]
 pub(crate) fn events(alloc: Global, tokens: &mut Tokens<'_>) -> Result<List<TriggerEvent>, Fail>
     ensures { Reads (reads_part spec.Events tokens.old) result tokens.new }
 {
-    list(
-        alloc,
-        tokens,
-        Mark::Keyword(Keyword::Or),
-        |tokens| event(tokens),
-    )
+    list(alloc, tokens, Mark::Keyword(Keyword::Or), event)
 }
 
 // (FUNCTION | PROCEDURE) name()
-#[tactic(auto, using(crate::proofs::Step::gives))]
 pub(crate) fn executed(tokens: &mut Tokens<'_>) -> Result<Name, Fail>
     ensures { Reads (reads_part spec.Executed tokens.old) result tokens.new }
 {
     if tokens.eat(Mark::Word("function")) {
-        let name = tokens.name()?;
-        tokens.expect(Mark::Sign(Sign::Open))?;
-        tokens.expect(Mark::Sign(Sign::Close))?;
+        let name = read!(tokens.name());
+        read!(tokens.expect(Mark::Sign(Sign::Open)));
+        read!(tokens.expect(Mark::Sign(Sign::Close)));
         return Ok(name);
     }
-    tokens.expect(Mark::Word("procedure"))?;
-    let name = tokens.name()?;
-    tokens.expect(Mark::Sign(Sign::Open))?;
-    tokens.expect(Mark::Sign(Sign::Close))?;
+    read!(tokens.expect(Mark::Word("procedure")));
+    let name = read!(tokens.name());
+    read!(tokens.expect(Mark::Sign(Sign::Open)));
+    read!(tokens.expect(Mark::Sign(Sign::Close)));
     Ok(name)
 }
 
 // CREATE TRIGGER, behind these words.
-#[tactic(auto, using(crate::proofs::Step::gives))]
 pub(crate) fn new_trigger(alloc: Global, tokens: &mut Tokens<'_>) -> Result<Definition, Fail>
     ensures { Reads (reads_part spec.NewTrigger tokens.old) result tokens.new }
 {
-    let name = tokens.name()?;
-    let timing = timing(tokens)?;
-    let events = events(alloc, tokens)?;
-    tokens.expect(Mark::Keyword(Keyword::On))?;
-    let table = tokens.table_name()?;
-    tokens.expect(Mark::Keyword(Keyword::For))?;
+    let name = read!(tokens.name());
+    let timing = read!(timing(tokens));
+    let events = read!(events(alloc, tokens));
+    read!(tokens.expect(Mark::Keyword(Keyword::On)));
+    let table = read!(tokens.table_name());
+    read!(tokens.expect(Mark::Keyword(Keyword::For)));
     tokens.eat(Mark::Word("each"));
-    tokens.expect(Mark::Keyword(Keyword::Row))?;
-    tokens.expect(Mark::Keyword(Keyword::Execute))?;
-    let routine = executed(tokens)?;
+    read!(tokens.expect(Mark::Keyword(Keyword::Row)));
+    read!(tokens.expect(Mark::Keyword(Keyword::Execute)));
+    let routine = read!(executed(tokens));
     Ok(Definition::CreateTrigger(NewTrigger {
         name,
         timing,

@@ -1,0 +1,23 @@
+use Rattle.std.proofs.Common.{rules}
+use Rattle.pl_sql_parse.proofs.tables.other_rule_kind.Goals as goal
+
+pub returns-in-Err : goal.returns-in-Err
+returns-in-Err c = search rules
+
+pub returns-then-eat : goal.returns-then-eat
+returns-then-eat c = search rules
+
+pub returns-then-eat-2 : goal.returns-then-eat-2
+returns-then-eat-2 c = search rules
+
+pub returns-in-Err-expect : goal.returns-in-Err-expect
+returns-in-Err-expect c = search rules
+
+pub returns-then-eat-3 : goal.returns-then-eat-3
+returns-then-eat-3 c = search rules
+
+pub returns-in-Err-expect-2 : goal.returns-in-Err-expect-2
+returns-in-Err-expect-2 c = search rules
+
+pub returns : goal.returns
+returns c = search rules
