@@ -1,16 +1,21 @@
 //! Commands of SQL in bodies: PostgreSQL manual, "Executing SQL Commands" and "Executing Dynamic
 //! Commands".
 
-ghost use Rattle.std.specs.Prelude.{◌≡◌};
+ghost use Rattle.std.specs.Prelude.{◌≡◌, Some};
+ghost use Rattle.pl_expr_parse.specs.Finished.{finished};
+ghost use Rattle.pl_expr_parse.specs.Grammar as x;
 ghost use Rattle.pl_grammar.specs.Parser.{Reads};
+ghost use Rattle.pl_grammar.specs.Rule.{given, make, part, ◌then◌, ◌until◌};
+ghost use Rattle.pl_body_pieces.specs.Words.{SEMICOLON};
 ghost use Rattle.pl_body_pieces.specs.Grammar as spec;
 ghost use Rattle.pl_body_pieces.specs.FirstFollow.{reads, reads_part};
 ghost use Rattle.pl_body_pieces.specs.Trees.{with_tail};
 
 use crate::marks::{CHANGE, TRANSACTION};
+use crate::steps::until;
 use crate::trees::{change_of, changed_of};
 use crate::values::{into, optional_into, using};
-use pl_base::{Boxed, Held, List};
+use pl_base::{Boxed, List};
 use pl_bodies::{Change, Dynamic, IntoClause, Simple};
 use pl_expr_parse::{
     read_condition, read_expression, read_groups, read_having, read_items, read_order, read_paging,
@@ -27,33 +32,71 @@ use std::alloc::Global;
 // ---- queries
 
 // What stands behind the items of a query: sources, condition, groups, HAVING, order and paging.
-type Tail = (
-    List<From>,
-    (
-        Option<Boxed<Expr>>,
-        (
-            List<Expr>,
-            (
-                Option<Boxed<Expr>>,
-                (List<Key>, (Option<Boxed<Expr>>, Option<Boxed<Expr>>)),
-            ),
-        ),
-    ),
-);
+type Tail = (List<From>, (Option<Boxed<Expr>>, Grouped));
+
+// The same from GROUP BY on, and from ORDER BY on.
+type Grouped = (List<Expr>, (Option<Boxed<Expr>>, Ordered));
+
+type Ordered = (List<Key>, (Option<Boxed<Expr>>, Option<Boxed<Expr>>));
+
+fn ordered(alloc: Global, tokens: &mut Tokens<'_>) -> Result<Ordered, Fail>
+    ensures { Reads (reads (given (finished x.Order) then given (finished x.Paging)) tokens.old)
+        result tokens.new }
+{
+    match read_order(alloc, tokens) {
+        Ok(order) => match read_paging(alloc, tokens) {
+            Ok(paging) => Ok((order, paging)),
+            Err(fail) => Err(fail),
+        },
+        Err(fail) => Err(fail),
+    }
+}
+
+fn grouped(alloc: Global, tokens: &mut Tokens<'_>) -> Result<Grouped, Fail>
+    ensures { Reads (reads (given (finished x.Groups) then given (finished x.Having)
+        then given (finished x.Order) then given (finished x.Paging)) tokens.old)
+        result tokens.new }
+{
+    match read_groups(alloc, tokens) {
+        Ok(groups) => match read_having(alloc, tokens) {
+            Ok(having) => match ordered(alloc, tokens) {
+                Ok(ordered) => Ok((groups, (having, ordered))),
+                Err(fail) => Err(fail),
+            },
+            Err(fail) => Err(fail),
+        },
+        Err(fail) => Err(fail),
+    }
+}
+
+fn tail(alloc: Global, tokens: &mut Tokens<'_>) -> Result<Tail, Fail>
+    ensures { Reads (reads spec.tail tokens.old) result tokens.new }
+{
+    match read_sources(alloc, tokens) {
+        Ok(from) => match read_condition(alloc, tokens) {
+            Ok(condition) => match grouped(alloc, tokens) {
+                Ok(grouped) => Ok((from, (condition, grouped))),
+                Err(fail) => Err(fail),
+            },
+            Err(fail) => Err(fail),
+        },
+        Err(fail) => Err(fail),
+    }
+}
 
 // What stands behind the items of a query, and the semicolon.
-#[tactic(auto, using(crate::proofs::Step::gives))]
 fn query_end(alloc: Global, tokens: &mut Tokens<'_>) -> Result<Tail, Fail>
     ensures { Reads (reads_part spec.QueryEnd tokens.old) result tokens.new }
 {
-    let from = read_sources(alloc, tokens)?;
-    let condition = read_condition(alloc, tokens)?;
-    let groups = read_groups(alloc, tokens)?;
-    let having = read_having(alloc, tokens)?;
-    let order = read_order(alloc, tokens)?;
-    let paging = read_paging(alloc, tokens)?;
-    tokens.expect(Mark::Sign(Sign::Semicolon))?;
-    Ok((from, (condition, (groups, (having, (order, paging))))))
+    match tail(alloc, tokens) {
+        Ok(tail) => {
+            if tokens.eat(Mark::Sign(Sign::Semicolon)) {
+                return Ok(tail);
+            }
+            Err(Fail::Syntax)
+        }
+        Err(fail) => Err(fail),
+    }
 }
 
 fn query_of(is_distinct: bool, items: List<Item>, tail: Tail) -> Query
@@ -74,17 +117,36 @@ fn query_of(is_distinct: bool, items: List<Item>, tail: Tail) -> Query
 }
 
 // PERFORM, behind that word.
-#[tactic(auto, using(crate::proofs::Step::gives))]
 fn perform(alloc: Global, tokens: &mut Tokens<'_>) -> Result<Simple, Fail>
     ensures { Reads (reads_part spec.Perform tokens.old) result tokens.new }
 {
-    let (is_distinct, items) = read_selected(alloc, tokens)?;
-    let tail = query_end(alloc, tokens)?;
-    Ok(Simple::Perform(query_of(is_distinct, items, tail)))
+    match read_selected(alloc, tokens) {
+        Ok((is_distinct, items)) => match query_end(alloc, tokens) {
+            Ok(tail) => Ok(Simple::Perform(query_of(is_distinct, items, tail))),
+            Err(fail) => Err(fail),
+        },
+        Err(fail) => Err(fail),
+    }
+}
+
+// INTO before the items, behind that word.
+fn into_and_items(
+    alloc: Global,
+    tokens: &mut Tokens<'_>,
+) -> Result<(Option<IntoClause>, List<Item>), Fail>
+    ensures { Reads (reads (make (λ p. (Some p.0, p.1)) (part spec.Into then spec.items))
+        tokens.old) result tokens.new }
+{
+    match into(alloc, tokens) {
+        Ok(into) => match read_items(alloc, tokens) {
+            Ok(items) => Ok((Some(into), items)),
+            Err(fail) => Err(fail),
+        },
+        Err(fail) => Err(fail),
+    }
 }
 
 // INTO and items, in either order.
-#[tactic(auto, using(crate::proofs::Step::gives))]
 fn into_items(
     alloc: Global,
     tokens: &mut Tokens<'_>,
@@ -92,17 +154,18 @@ fn into_items(
     ensures { Reads (reads_part spec.IntoItems tokens.old) result tokens.new }
 {
     if tokens.eat(Mark::Keyword(Keyword::Into)) {
-        let into = into(alloc, tokens)?;
-        let items = read_items(alloc, tokens)?;
-        return Ok((Some(into), items));
+        return into_and_items(alloc, tokens);
     }
-    let items = read_items(alloc, tokens)?;
-    let into = optional_into(alloc, tokens)?;
-    Ok((into, items))
+    match read_items(alloc, tokens) {
+        Ok(items) => match optional_into(alloc, tokens) {
+            Ok(into) => Ok((into, items)),
+            Err(fail) => Err(fail),
+        },
+        Err(fail) => Err(fail),
+    }
 }
 
 // [DISTINCT | ALL], INTO and items.
-#[tactic(auto, using(crate::proofs::Step::gives))]
 fn selected(
     alloc: Global,
     tokens: &mut Tokens<'_>,
@@ -110,21 +173,32 @@ fn selected(
     ensures { Reads (reads_part spec.Selected tokens.old) result tokens.new }
 {
     if tokens.eat(Mark::Keyword(Keyword::Distinct)) {
-        return Ok((true, into_items(alloc, tokens)?));
+        return match into_items(alloc, tokens) {
+            Ok(items) => Ok((true, items)),
+            Err(fail) => Err(fail),
+        };
     }
     tokens.eat(Mark::Keyword(Keyword::All));
-    Ok((false, into_items(alloc, tokens)?))
+    match into_items(alloc, tokens) {
+        Ok(items) => Ok((false, items)),
+        Err(fail) => Err(fail),
+    }
 }
 
 // SELECT, behind that word.
-#[tactic(auto, using(crate::proofs::Step::gives))]
 fn select(alloc: Global, tokens: &mut Tokens<'_>) -> Result<Simple, Fail>
     ensures { Reads (reads_part spec.Select tokens.old) result tokens.new }
 {
-    let (is_distinct, (into, items)) = selected(alloc, tokens)?;
-    let tail = query_end(alloc, tokens)?;
-    let query = query_of(is_distinct, items, tail);
-    Ok(Simple::Query { query, into })
+    match selected(alloc, tokens) {
+        Ok((is_distinct, (into, items))) => match query_end(alloc, tokens) {
+            Ok(tail) => Ok(Simple::Query {
+                query: query_of(is_distinct, items, tail),
+                into,
+            }),
+            Err(fail) => Err(fail),
+        },
+        Err(fail) => Err(fail),
+    }
 }
 
 // ---- changes
@@ -139,77 +213,106 @@ fn changing(alloc: Global, tokens: &mut Tokens<'_>) -> Result<Command, Fail>
     if tokens.eat(Mark::Keyword(Keyword::Update)) {
         return read_update(alloc, tokens);
     }
-    tokens.expect(Mark::Keyword(Keyword::Delete))?;
-    read_delete(alloc, tokens)
+    if tokens.eat(Mark::Keyword(Keyword::Delete)) {
+        return read_delete(alloc, tokens);
+    }
+    Err(Fail::Syntax)
 }
 
 /// INSERT, UPDATE or DELETE.
-#[tactic(auto, using(crate::proofs::Step::gives))]
 pub(crate) fn change(alloc: Global, tokens: &mut Tokens<'_>) -> Result<Change, Fail>
     ensures { Reads (reads_part spec.Change tokens.old) result tokens.new }
 {
-    change_of(changing(alloc, tokens)?)
+    match changing(alloc, tokens) {
+        Ok(command) => change_of(command),
+        Err(fail) => Err(fail),
+    }
 }
 
 // A change [INTO into];
-#[tactic(auto, using(crate::proofs::Step::gives))]
 fn changed(alloc: Global, tokens: &mut Tokens<'_>) -> Result<Simple, Fail>
     ensures { Reads (reads_part spec.Changed tokens.old) result tokens.new }
 {
-    let change = Held::new(change(alloc, tokens)?);
-    let into = optional_into(alloc, tokens)?;
-    tokens.expect(Mark::Sign(Sign::Semicolon))?;
-    changed_of(change.into_inner(), into)
+    match change(alloc, tokens) {
+        Ok(change) => {
+            let into = optional_into(alloc, tokens);
+            match until(into, tokens, Mark::Sign(Sign::Semicolon)) {
+                Ok(into) => changed_of(change, into),
+                Err(fail) => {
+                    drop(change);
+                    Err(fail)
+                }
+            }
+        }
+        Err(fail) => Err(fail),
+    }
 }
 
 // ---- other commands
 
+// [INTO into] [USING e {, e}];
+fn executed(
+    alloc: Global,
+    tokens: &mut Tokens<'_>,
+) -> Result<(Option<IntoClause>, List<Expr>), Fail>
+    ensures { Reads (reads ((spec.optional_into then part spec.Using) until SEMICOLON) tokens.old)
+        result tokens.new }
+{
+    match optional_into(alloc, tokens) {
+        Ok(into) => {
+            let arguments = using(alloc, tokens);
+            match until(arguments, tokens, Mark::Sign(Sign::Semicolon)) {
+                Ok(arguments) => Ok((into, arguments)),
+                Err(fail) => Err(fail),
+            }
+        }
+        Err(fail) => Err(fail),
+    }
+}
+
 // EXECUTE, behind that word.
-#[tactic(auto, using(crate::proofs::Step::gives))]
 fn execute(alloc: Global, tokens: &mut Tokens<'_>) -> Result<Simple, Fail>
     ensures { Reads (reads_part spec.Execute tokens.old) result tokens.new }
 {
-    let text = Held::new(read_expression(alloc, tokens)?);
-    let into = optional_into(alloc, tokens)?;
-    let arguments = using(alloc, tokens)?;
-    tokens.expect(Mark::Sign(Sign::Semicolon))?;
-    Ok(Simple::Execute {
-        command: Dynamic {
-            text: text.into_inner(),
-            arguments,
+    match read_expression(alloc, tokens) {
+        Ok(text) => match executed(alloc, tokens) {
+            Ok((into, arguments)) => Ok(Simple::Execute {
+                command: Dynamic { text, arguments },
+                into,
+            }),
+            Err(fail) => {
+                drop(text);
+                Err(fail)
+            }
         },
-        into,
-    })
+        Err(fail) => Err(fail),
+    }
 }
 
 // COMMIT; or ROLLBACK;
-#[tactic(auto, using(crate::proofs::Step::gives))]
 fn transaction(tokens: &mut Tokens<'_>) -> Result<Simple, Fail>
     ensures { Reads (reads_part spec.Transaction tokens.old) result tokens.new }
 {
     if tokens.eat(Mark::Word("commit")) {
-        tokens.expect(Mark::Sign(Sign::Semicolon))?;
-        return Ok(Simple::Commit);
+        return until(Ok(Simple::Commit), tokens, Mark::Sign(Sign::Semicolon));
     }
-    tokens.expect(Mark::Word("rollback"))?;
-    tokens.expect(Mark::Sign(Sign::Semicolon))?;
-    Ok(Simple::Rollback)
+    if tokens.eat(Mark::Word("rollback")) {
+        return until(Ok(Simple::Rollback), tokens, Mark::Sign(Sign::Semicolon));
+    }
+    Err(Fail::Syntax)
 }
 
 // DO or CALL;
-#[tactic(auto, using(crate::proofs::Step::gives))]
 fn other_command(alloc: Global, tokens: &mut Tokens<'_>) -> Result<Command, Fail>
     ensures { Reads (reads_part spec.OtherCommand tokens.old) result tokens.new }
 {
     if tokens.eat(Mark::Keyword(Keyword::Do)) {
-        let command = Held::new(read_do_body(alloc, tokens)?);
-        tokens.expect(Mark::Sign(Sign::Semicolon))?;
-        return Ok(command.into_inner());
+        let command = read_do_body(alloc, tokens);
+        return until(command, tokens, Mark::Sign(Sign::Semicolon));
     }
     if tokens.eat(Mark::Word("call")) {
-        let command = Held::new(read_call(alloc, tokens)?);
-        tokens.expect(Mark::Sign(Sign::Semicolon))?;
-        return Ok(command.into_inner());
+        let command = read_call(alloc, tokens);
+        return until(command, tokens, Mark::Sign(Sign::Semicolon));
     }
     if tokens.eat(Mark::Word("start")) {
         return started(tokens);
@@ -221,9 +324,14 @@ fn other_command(alloc: Global, tokens: &mut Tokens<'_>) -> Result<Command, Fail
 fn started(tokens: &mut Tokens<'_>) -> Result<Command, Fail>
     ensures { Reads (reads spec.started tokens.old) result tokens.new }
 {
-    tokens.expect(Mark::Word("transaction"))?;
-    tokens.expect(Mark::Sign(Sign::Semicolon))?;
-    Ok(Command::StartTransaction)
+    if tokens.eat(Mark::Word("transaction")) {
+        return until(
+            Ok(Command::StartTransaction),
+            tokens,
+            Mark::Sign(Sign::Semicolon),
+        );
+    }
+    Err(Fail::Syntax)
 }
 
 // SAVEPOINT name; RELEASE name;
@@ -231,18 +339,23 @@ fn savepoint_command(tokens: &mut Tokens<'_>) -> Result<Command, Fail>
     ensures { Reads (reads spec.savepoint_command tokens.old) result tokens.new }
 {
     if tokens.eat(Mark::Word("savepoint")) {
-        let name = tokens.name()?;
-        tokens.expect(Mark::Sign(Sign::Semicolon))?;
-        return Ok(Command::Savepoint(name));
+        let name = tokens.name();
+        return match until(name, tokens, Mark::Sign(Sign::Semicolon)) {
+            Ok(name) => Ok(Command::Savepoint(name)),
+            Err(fail) => Err(fail),
+        };
     }
-    tokens.expect(Mark::Word("release"))?;
-    let name = read_savepoint_name(tokens)?;
-    tokens.expect(Mark::Sign(Sign::Semicolon))?;
-    Ok(Command::Release(name))
+    if tokens.eat(Mark::Word("release")) {
+        let name = read_savepoint_name(tokens);
+        return match until(name, tokens, Mark::Sign(Sign::Semicolon)) {
+            Ok(name) => Ok(Command::Release(name)),
+            Err(fail) => Err(fail),
+        };
+    }
+    Err(Fail::Syntax)
 }
 
 /// A query, a change or another command, and a semicolon.
-#[tactic(auto, using(crate::proofs::Step::gives))]
 pub(crate) fn command(alloc: Global, tokens: &mut Tokens<'_>) -> Result<Simple, Fail>
     ensures { Reads (reads_part spec.Command tokens.old) result tokens.new }
 {
@@ -261,5 +374,8 @@ pub(crate) fn command(alloc: Global, tokens: &mut Tokens<'_>) -> Result<Simple, 
     if tokens.begins(&CHANGE) {
         return changed(alloc, tokens);
     }
-    Ok(Simple::Command(other_command(alloc, tokens)?))
+    match other_command(alloc, tokens) {
+        Ok(command) => Ok(Simple::Command(command)),
+        Err(fail) => Err(fail),
+    }
 }

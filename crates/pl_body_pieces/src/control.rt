@@ -1,16 +1,20 @@
 //! Statements that go elsewhere, and those that say something: PostgreSQL manual, "Control
 //! Structures" and "Obtaining the Result Status".
 
-ghost use Rattle.pl_grammar.specs.Parser.{Reads, listed};
-ghost use Rattle.pl_grammar.specs.Words as w;
+ghost use Rattle.pl_grammar.specs.Parser.{Reads};
+ghost use Rattle.pl_grammar.specs.Rule.{make, part};
+ghost use Rattle.pl_bodies.specs.declared.simple.Simple.TheVariants as simple;
 ghost use Rattle.pl_body_pieces.specs.Grammar as spec;
 ghost use Rattle.pl_body_pieces.specs.FirstFollow.{reads, reads_part};
 
 use crate::ahead::sees_pair;
 use crate::marks::RETURNED;
 use crate::raise::raise;
-use crate::values::{becomes, boxed_expression, dynamic, optional_name, target};
-use pl_base::{Boxed, Held, List, Name};
+use crate::steps::until;
+use crate::values::{
+    becomes, boxed_expression, dynamic, optional_expression, optional_name, target,
+};
+use pl_base::{Boxed, List, Name};
 use pl_bodies::{Jump, Simple, StackedItem, StackedTarget, Target};
 use pl_expr_parse::{read_expression, read_query};
 use pl_grammar::{Fail, Mark, Tokens, list};
@@ -19,57 +23,75 @@ use pl_tree::Expr;
 use std::alloc::Global;
 
 // [name] [WHEN e];
-#[tactic(auto, using(crate::proofs::Step::gives))]
 fn jump(alloc: Global, tokens: &mut Tokens<'_>) -> Result<(Option<Name>, Option<Boxed<Expr>>), Fail>
     ensures { Reads (reads_part spec.Jump tokens.old) result tokens.new }
 {
-    let label = optional_name(tokens)?;
-    if !tokens.eat(Mark::Keyword(Keyword::When)) {
-        tokens.expect(Mark::Sign(Sign::Semicolon))?;
-        return Ok((label, None));
+    let label = match optional_name(tokens) {
+        Ok(label) => label,
+        Err(fail) => return Err(fail),
+    };
+    let condition = optional_expression(alloc, tokens, Mark::Keyword(Keyword::When));
+    match until(condition, tokens, Mark::Sign(Sign::Semicolon)) {
+        Ok(condition) => Ok((label, condition)),
+        Err(fail) => Err(fail),
     }
-    let condition = boxed_expression(alloc, tokens)?;
-    tokens.expect(Mark::Sign(Sign::Semicolon))?;
-    Ok((label, Some(condition)))
+}
+
+// EXIT or CONTINUE, behind that word.
+fn jump_of(alloc: Global, tokens: &mut Tokens<'_>, to: Jump) -> Result<Simple, Fail>
+    ensures { Reads (reads (make (λ p. simple.Jump to p.0 p.1) (part spec.Jump)) tokens.old)
+        result tokens.new }
+{
+    match jump(alloc, tokens) {
+        Ok((label, condition)) => Ok(Simple::Jump {
+            jump: to,
+            label,
+            condition,
+        }),
+        Err(fail) => Err(fail),
+    }
 }
 
 // e;
 fn before_semicolon(alloc: Global, tokens: &mut Tokens<'_>) -> Result<Boxed<Expr>, Fail>
     ensures { Reads (reads spec.before_semicolon tokens.old) result tokens.new }
 {
-    let value = boxed_expression(alloc, tokens)?;
-    tokens.expect(Mark::Sign(Sign::Semicolon))?;
-    Ok(value)
+    let value = boxed_expression(alloc, tokens);
+    until(value, tokens, Mark::Sign(Sign::Semicolon))
 }
 
 // [e];
-#[tactic(auto, using(crate::proofs::Step::gives))]
 fn return_next(alloc: Global, tokens: &mut Tokens<'_>) -> Result<Option<Boxed<Expr>>, Fail>
     ensures { Reads (reads_part spec.ReturnNext tokens.old) result tokens.new }
 {
     if tokens.eat(Mark::Sign(Sign::Semicolon)) {
         return Ok(None);
     }
-    Ok(Some(before_semicolon(alloc, tokens)?))
+    match before_semicolon(alloc, tokens) {
+        Ok(value) => Ok(Some(value)),
+        Err(fail) => Err(fail),
+    }
 }
 
 // RETURN QUERY, behind these words.
-#[tactic(auto, using(crate::proofs::Step::gives))]
 fn return_query(alloc: Global, tokens: &mut Tokens<'_>) -> Result<Simple, Fail>
     ensures { Reads (reads_part spec.ReturnQuery tokens.old) result tokens.new }
 {
     if tokens.eat(Mark::Keyword(Keyword::Execute)) {
-        let command = Held::new(dynamic(alloc, tokens)?);
-        tokens.expect(Mark::Sign(Sign::Semicolon))?;
-        return Ok(Simple::ReturnExecute(command.into_inner()));
+        let command = dynamic(alloc, tokens);
+        return match until(command, tokens, Mark::Sign(Sign::Semicolon)) {
+            Ok(command) => Ok(Simple::ReturnExecute(command)),
+            Err(fail) => Err(fail),
+        };
     }
-    let query = Held::new(read_query(alloc, tokens)?);
-    tokens.expect(Mark::Sign(Sign::Semicolon))?;
-    Ok(Simple::ReturnQuery(query.into_inner()))
+    let query = read_query(alloc, tokens);
+    match until(query, tokens, Mark::Sign(Sign::Semicolon)) {
+        Ok(query) => Ok(Simple::ReturnQuery(query)),
+        Err(fail) => Err(fail),
+    }
 }
 
 // RETURN, behind that word.
-#[tactic(auto, using(crate::proofs::Step::ahead_steps))]
 fn return_of(alloc: Global, tokens: &mut Tokens<'_>) -> Result<Simple, Fail>
     ensures { Reads (reads_part spec.Return tokens.old) result tokens.new }
 {
@@ -77,14 +99,18 @@ fn return_of(alloc: Global, tokens: &mut Tokens<'_>) -> Result<Simple, Fail>
         return Ok(Simple::Return(None));
     }
     if sees_pair(tokens, &[Mark::Word("next")], &RETURNED) {
-        tokens.expect(Mark::Word("next"))?;
-        return Ok(Simple::ReturnNext(return_next(alloc, tokens)?));
+        if tokens.eat(Mark::Word("next")) {
+            return match return_next(alloc, tokens) {
+                Ok(value) => Ok(Simple::ReturnNext(value)),
+                Err(fail) => Err(fail),
+            };
+        }
+        return Err(Fail::Syntax);
     }
     returned_value(alloc, tokens)
 }
 
 // QUERY and what it returns, or e;
-#[tactic(auto, using(crate::proofs::Step::then_reads, crate::proofs::Step::else_reads))]
 fn returned_value(alloc: Global, tokens: &mut Tokens<'_>) -> Result<Simple, Fail>
     ensures { Reads (reads spec.returned_value tokens.old) result tokens.new }
 {
@@ -96,57 +122,53 @@ fn returned_value(alloc: Global, tokens: &mut Tokens<'_>) -> Result<Simple, Fail
             Mark::Keyword(Keyword::Execute),
         ],
     ) {
-        tokens.expect(Mark::Word("query"))?;
-        return return_query(alloc, tokens);
+        if tokens.eat(Mark::Word("query")) {
+            return return_query(alloc, tokens);
+        }
+        return Err(Fail::Syntax);
     }
-    Ok(Simple::Return(Some(before_semicolon(alloc, tokens)?)))
+    match before_semicolon(alloc, tokens) {
+        Ok(value) => Ok(Simple::Return(Some(value))),
+        Err(fail) => Err(fail),
+    }
 }
 
 // ASSERT, behind that word.
-#[tactic(auto, using(crate::proofs::Step::gives))]
 fn assert_of(alloc: Global, tokens: &mut Tokens<'_>) -> Result<Simple, Fail>
     ensures { Reads (reads_part spec.Assert tokens.old) result tokens.new }
 {
-    let condition = Held::new(read_expression(alloc, tokens)?);
-    if !tokens.eat(Mark::Sign(Sign::Comma)) {
-        tokens.expect(Mark::Sign(Sign::Semicolon))?;
-        return Ok(Simple::Assert {
-            condition: condition.into_inner(),
-            message: None,
-        });
+    match read_expression(alloc, tokens) {
+        Ok(condition) => {
+            let message = optional_expression(alloc, tokens, Mark::Sign(Sign::Comma));
+            match until(message, tokens, Mark::Sign(Sign::Semicolon)) {
+                Ok(message) => Ok(Simple::Assert { condition, message }),
+                Err(fail) => {
+                    drop(condition);
+                    Err(fail)
+                }
+            }
+        }
+        Err(fail) => Err(fail),
     }
-    let message = boxed_expression(alloc, tokens)?;
-    tokens.expect(Mark::Sign(Sign::Semicolon))?;
-    Ok(Simple::Assert {
-        condition: condition.into_inner(),
-        message: Some(message),
-    })
 }
 
 // ---- diagnostics
 
 // target (:= | =) ROW_COUNT
-#[tactic(auto, using(crate::proofs::Step::gives))]
 fn row_count(tokens: &mut Tokens<'_>) -> Result<Target, Fail>
     ensures { Reads (reads_part spec.RowCount tokens.old) result tokens.new }
 {
-    let target = target(tokens)?;
-    becomes(tokens)?;
-    tokens.expect(Mark::Word("row_count"))?;
-    Ok(target)
-}
-
-fn exception_item(tokens: &mut Tokens<'_>) -> Result<StackedItem, Fail>
-    ensures { Reads (reads spec.exception_item tokens.old) result tokens.new }
-{
-    if tokens.eat(Mark::Word("pg_exception_detail")) {
-        return Ok(StackedItem::PgExceptionDetail);
+    let target = match target(tokens) {
+        Ok(target) => target,
+        Err(fail) => return Err(fail),
+    };
+    let sign = becomes(tokens);
+    match until(sign, tokens, Mark::Word("row_count")) {
+        Ok(()) => Ok(target),
+        Err(fail) => Err(fail),
     }
-    tokens.expect(Mark::Word("pg_exception_hint"))?;
-    Ok(StackedItem::PgExceptionHint)
 }
 
-#[tactic(auto, using(crate::proofs::Step::gives))]
 fn stacked_item(tokens: &mut Tokens<'_>) -> Result<StackedItem, Fail>
     ensures { Reads (reads_part spec.StackedItem tokens.old) result tokens.new }
 {
@@ -156,73 +178,72 @@ fn stacked_item(tokens: &mut Tokens<'_>) -> Result<StackedItem, Fail>
     if tokens.eat(Mark::Word("message_text")) {
         return Ok(StackedItem::MessageText);
     }
-    exception_item(tokens)
+    if tokens.eat(Mark::Word("pg_exception_detail")) {
+        return Ok(StackedItem::PgExceptionDetail);
+    }
+    if tokens.eat(Mark::Word("pg_exception_hint")) {
+        return Ok(StackedItem::PgExceptionHint);
+    }
+    Err(Fail::Syntax)
 }
 
 // target (:= | =) item
-#[tactic(auto, using(crate::proofs::Step::gives))]
 fn stacked_target(tokens: &mut Tokens<'_>) -> Result<StackedTarget, Fail>
     ensures { Reads (reads_part spec.StackedTarget tokens.old) result tokens.new }
 {
-    let target = target(tokens)?;
-    becomes(tokens)?;
-    let item = stacked_item(tokens)?;
-    Ok(StackedTarget { target, item })
+    let target = match target(tokens) {
+        Ok(target) => target,
+        Err(fail) => return Err(fail),
+    };
+    match becomes(tokens) {
+        Ok(()) => match stacked_item(tokens) {
+            Ok(item) => Ok(StackedTarget { target, item }),
+            Err(fail) => Err(fail),
+        },
+        Err(fail) => Err(fail),
+    }
 }
 
-fn row_count_list(alloc: Global, tokens: &mut Tokens<'_>) -> Result<List<Target>, Fail>
-    ensures { Reads (listed w.COMMA (reads_part spec.RowCount) tokens.old) result tokens.new }
+// target (:= | =) ROW_COUNT {, target (:= | =) ROW_COUNT};
+fn row_counts(alloc: Global, tokens: &mut Tokens<'_>) -> Result<List<Target>, Fail>
+    ensures { Reads (reads_part spec.RowCounts tokens.old) result tokens.new }
 {
-    list(
+    let targets = list(
         alloc,
         tokens,
         Mark::Sign(Sign::Comma),
         |tokens| row_count(tokens),
-    )
+    );
+    until(targets, tokens, Mark::Sign(Sign::Semicolon))
 }
 
-fn stacked_list(alloc: Global, tokens: &mut Tokens<'_>) -> Result<List<StackedTarget>, Fail>
-    ensures { Reads (listed w.COMMA (reads_part spec.StackedTarget) tokens.old) result tokens.new }
+// target (:= | =) item {, target (:= | =) item};
+fn stacked_targets(alloc: Global, tokens: &mut Tokens<'_>) -> Result<List<StackedTarget>, Fail>
+    ensures { Reads (reads_part spec.StackedTargets tokens.old) result tokens.new }
 {
-    list(
+    let targets = list(
         alloc,
         tokens,
         Mark::Sign(Sign::Comma),
         |tokens| stacked_target(tokens),
-    )
-}
-
-// target (:= | =) ROW_COUNT {, target (:= | =) ROW_COUNT};
-#[tactic(auto, using(crate::proofs::Step::gives))]
-fn row_counts(alloc: Global, tokens: &mut Tokens<'_>) -> Result<List<Target>, Fail>
-    ensures { Reads (reads_part spec.RowCounts tokens.old) result tokens.new }
-{
-    let targets = row_count_list(alloc, tokens)?;
-    tokens.expect(Mark::Sign(Sign::Semicolon))?;
-    Ok(targets)
-}
-
-// target (:= | =) item {, target (:= | =) item};
-#[tactic(auto, using(crate::proofs::Step::gives))]
-fn stacked_targets(alloc: Global, tokens: &mut Tokens<'_>) -> Result<List<StackedTarget>, Fail>
-    ensures { Reads (reads_part spec.StackedTargets tokens.old) result tokens.new }
-{
-    let targets = stacked_list(alloc, tokens)?;
-    tokens.expect(Mark::Sign(Sign::Semicolon))?;
-    Ok(targets)
+    );
+    until(targets, tokens, Mark::Sign(Sign::Semicolon))
 }
 
 // DIAGNOSTICS and targets, behind STACKED.
 fn stacked_diagnostics(alloc: Global, tokens: &mut Tokens<'_>) -> Result<Simple, Fail>
     ensures { Reads (reads spec.stacked_diagnostics tokens.old) result tokens.new }
 {
-    tokens.expect(Mark::Word("diagnostics"))?;
-    let targets = stacked_targets(alloc, tokens)?;
-    Ok(Simple::GetStackedDiagnostics(targets))
+    if tokens.eat(Mark::Word("diagnostics")) {
+        return match stacked_targets(alloc, tokens) {
+            Ok(targets) => Ok(Simple::GetStackedDiagnostics(targets)),
+            Err(fail) => Err(fail),
+        };
+    }
+    Err(Fail::Syntax)
 }
 
 // GET, behind that word.
-#[tactic(auto, using(crate::proofs::Step::gives))]
 fn get(alloc: Global, tokens: &mut Tokens<'_>) -> Result<Simple, Fail>
     ensures { Reads (reads_part spec.Get tokens.old) result tokens.new }
 {
@@ -230,31 +251,24 @@ fn get(alloc: Global, tokens: &mut Tokens<'_>) -> Result<Simple, Fail>
         return stacked_diagnostics(alloc, tokens);
     }
     tokens.eat(Mark::Word("current"));
-    tokens.expect(Mark::Word("diagnostics"))?;
-    let targets = row_counts(alloc, tokens)?;
-    Ok(Simple::GetDiagnostics(targets))
+    if tokens.eat(Mark::Word("diagnostics")) {
+        return match row_counts(alloc, tokens) {
+            Ok(targets) => Ok(Simple::GetDiagnostics(targets)),
+            Err(fail) => Err(fail),
+        };
+    }
+    Err(Fail::Syntax)
 }
 
 /// EXIT, CONTINUE, RETURN, RAISE, ASSERT and GET.
-#[tactic(auto, using(crate::proofs::Step::gives))]
 pub(crate) fn control(alloc: Global, tokens: &mut Tokens<'_>) -> Result<Simple, Fail>
     ensures { Reads (reads_part spec.Control tokens.old) result tokens.new }
 {
     if tokens.eat(Mark::Word("exit")) {
-        let (label, condition) = jump(alloc, tokens)?;
-        return Ok(Simple::Jump {
-            jump: Jump::Exit,
-            label,
-            condition,
-        });
+        return jump_of(alloc, tokens, Jump::Exit);
     }
     if tokens.eat(Mark::Word("continue")) {
-        let (label, condition) = jump(alloc, tokens)?;
-        return Ok(Simple::Jump {
-            jump: Jump::Continue,
-            label,
-            condition,
-        });
+        return jump_of(alloc, tokens, Jump::Continue);
     }
     if tokens.eat(Mark::Word("return")) {
         return return_of(alloc, tokens);
@@ -265,6 +279,8 @@ pub(crate) fn control(alloc: Global, tokens: &mut Tokens<'_>) -> Result<Simple, 
     if tokens.eat(Mark::Word("assert")) {
         return assert_of(alloc, tokens);
     }
-    tokens.expect(Mark::Word("get"))?;
-    get(alloc, tokens)
+    if tokens.eat(Mark::Word("get")) {
+        return get(alloc, tokens);
+    }
+    Err(Fail::Syntax)
 }

@@ -13,6 +13,7 @@ mod marks;
 mod parts;
 mod pieces;
 mod raise;
+mod steps;
 mod trees;
 mod values;
 

@@ -8,9 +8,10 @@ use crate::ahead::sees_pair;
 use crate::commands::change;
 use crate::marks::{CHANGE, EXPRESSION};
 use crate::parts::ForSource;
+use crate::steps::until;
 use crate::trees::{for_of, upward_of};
-use crate::values::{boxed_expression, dynamic, targets};
-use pl_base::{Boxed, Held};
+use crate::values::{dynamic, expression_until, optional_expression, targets};
+use pl_base::Boxed;
 use pl_bodies::{LoopHead, RowSource};
 use pl_expr_parse::{read_expression, read_query};
 use pl_grammar::{Fail, Mark, Tokens};
@@ -19,22 +20,25 @@ use pl_tree::Expr;
 use std::alloc::Global;
 
 // e [BY e] LOOP
-#[tactic(auto, using(crate::proofs::Step::gives))]
 fn last(alloc: Global, tokens: &mut Tokens<'_>) -> Result<(Expr, Option<Boxed<Expr>>), Fail>
     ensures { Reads (reads_part spec.Last tokens.old) result tokens.new }
 {
-    let last = Held::new(read_expression(alloc, tokens)?);
-    if !tokens.eat(Mark::Keyword(Keyword::By)) {
-        tokens.expect(Mark::Keyword(Keyword::Loop))?;
-        return Ok((last.into_inner(), None));
+    match read_expression(alloc, tokens) {
+        Ok(last) => {
+            let step = optional_expression(alloc, tokens, Mark::Keyword(Keyword::By));
+            match until(step, tokens, Mark::Keyword(Keyword::Loop)) {
+                Ok(step) => Ok((last, step)),
+                Err(fail) => {
+                    drop(last);
+                    Err(fail)
+                }
+            }
+        }
+        Err(fail) => Err(fail),
     }
-    let step = boxed_expression(alloc, tokens)?;
-    tokens.expect(Mark::Keyword(Keyword::Loop))?;
-    Ok((last.into_inner(), Some(step)))
 }
 
 // [.. e [BY e]] LOOP
-#[tactic(auto, using(crate::proofs::Step::gives))]
 fn upper(
     alloc: Global,
     tokens: &mut Tokens<'_>,
@@ -42,80 +46,102 @@ fn upper(
     ensures { Reads (reads_part spec.Upper tokens.old) result tokens.new }
 {
     if tokens.eat(Mark::Sign(Sign::DotDot)) {
-        return Ok(Some(last(alloc, tokens)?));
+        return match last(alloc, tokens) {
+            Ok(last) => Ok(Some(last)),
+            Err(fail) => Err(fail),
+        };
     }
-    tokens.expect(Mark::Keyword(Keyword::Loop))?;
-    Ok(None)
+    until(Ok(None), tokens, Mark::Keyword(Keyword::Loop))
 }
 
 // e .. e [BY e] LOOP, or a cursor and LOOP.
-#[tactic(auto, using(crate::proofs::Step::gives))]
 fn upward(alloc: Global, tokens: &mut Tokens<'_>) -> Result<ForSource, Fail>
     ensures { Reads (reads_part spec.Upward tokens.old) result tokens.new }
 {
-    let first = Held::new(read_expression(alloc, tokens)?);
-    let to = upper(alloc, tokens)?;
-    upward_of(alloc, first.into_inner(), to)
+    match read_expression(alloc, tokens) {
+        Ok(first) => match upper(alloc, tokens) {
+            Ok(to) => upward_of(alloc, first, to),
+            Err(fail) => {
+                drop(first);
+                Err(fail)
+            }
+        },
+        Err(fail) => Err(fail),
+    }
 }
 
 // e .. e [BY e] LOOP, behind REVERSE.
-#[tactic(auto, using(crate::proofs::Step::gives))]
 fn downward(alloc: Global, tokens: &mut Tokens<'_>) -> Result<ForSource, Fail>
     ensures { Reads (reads_part spec.Downward tokens.old) result tokens.new }
 {
-    let first = Held::new(read_expression(alloc, tokens)?);
-    tokens.expect(Mark::Sign(Sign::DotDot))?;
-    let (last, step) = last(alloc, tokens)?;
-    Ok(ForSource::Range {
-        is_reverse: true,
-        first: first.into_inner(),
-        last,
-        step,
-    })
+    match expression_until(alloc, tokens, Mark::Sign(Sign::DotDot)) {
+        Ok(first) => match last(alloc, tokens) {
+            Ok((last, step)) => Ok(ForSource::Range {
+                is_reverse: true,
+                first,
+                last,
+                step,
+            }),
+            Err(fail) => {
+                drop(first);
+                Err(fail)
+            }
+        },
+        Err(fail) => Err(fail),
+    }
 }
 
 // [REVERSE] e .. e [BY e] LOOP, or a cursor and LOOP.
-#[tactic(auto, using(crate::proofs::Step::ahead_steps))]
 fn counted(alloc: Global, tokens: &mut Tokens<'_>) -> Result<ForSource, Fail>
     ensures { Reads (reads_part spec.Counted tokens.old) result tokens.new }
 {
     if sees_pair(tokens, &[Mark::Word("reverse")], &EXPRESSION) {
-        tokens.expect(Mark::Word("reverse"))?;
-        return downward(alloc, tokens);
+        if tokens.eat(Mark::Word("reverse")) {
+            return downward(alloc, tokens);
+        }
+        return Err(Fail::Syntax);
     }
     upward(alloc, tokens)
 }
 
 // What stands behind IN, and LOOP.
-#[tactic(auto, using(crate::proofs::Step::gives))]
 fn for_source(alloc: Global, tokens: &mut Tokens<'_>) -> Result<ForSource, Fail>
     ensures { Reads (reads_part spec.ForSource tokens.old) result tokens.new }
 {
     if tokens.eat(Mark::Keyword(Keyword::Execute)) {
-        let command = Held::new(dynamic(alloc, tokens)?);
-        tokens.expect(Mark::Keyword(Keyword::Loop))?;
-        return Ok(ForSource::Rows(RowSource::Execute(command.into_inner())));
+        let command = dynamic(alloc, tokens);
+        return match until(command, tokens, Mark::Keyword(Keyword::Loop)) {
+            Ok(command) => Ok(ForSource::Rows(RowSource::Execute(command))),
+            Err(fail) => Err(fail),
+        };
     }
     if tokens.sees(Mark::Keyword(Keyword::Select)) {
-        let query = Held::new(read_query(alloc, tokens)?);
-        tokens.expect(Mark::Keyword(Keyword::Loop))?;
-        return Ok(ForSource::Rows(RowSource::Query(query.into_inner())));
+        let query = read_query(alloc, tokens);
+        return match until(query, tokens, Mark::Keyword(Keyword::Loop)) {
+            Ok(query) => Ok(ForSource::Rows(RowSource::Query(query))),
+            Err(fail) => Err(fail),
+        };
     }
     if tokens.begins(&CHANGE) {
-        let change = Held::new(change(alloc, tokens)?);
-        tokens.expect(Mark::Keyword(Keyword::Loop))?;
-        return Ok(ForSource::Rows(RowSource::Change(change.into_inner())));
+        let change = change(alloc, tokens);
+        return match until(change, tokens, Mark::Keyword(Keyword::Loop)) {
+            Ok(change) => Ok(ForSource::Rows(RowSource::Change(change))),
+            Err(fail) => Err(fail),
+        };
     }
     counted(alloc, tokens)
 }
 
 /// What is behind FOR, and LOOP.
-#[tactic(auto, using(crate::proofs::Step::gives))]
 pub(crate) fn for_head(alloc: Global, tokens: &mut Tokens<'_>) -> Result<LoopHead, Fail>
     ensures { Reads (reads_part spec.For tokens.old) result tokens.new }
 {
-    let targets = targets(alloc, tokens)?;
-    tokens.expect(Mark::Keyword(Keyword::In))?;
-    let source = for_source(alloc, tokens)?;
-    for_of(targets, source)
+    let targets = targets(alloc, tokens);
+    match until(targets, tokens, Mark::Keyword(Keyword::In)) {
+        Ok(targets) => match for_source(alloc, tokens) {
+            Ok(source) => for_of(targets, source),
+            Err(fail) => Err(fail),
+        },
+        Err(fail) => Err(fail),
+    }
 }

@@ -4,7 +4,11 @@ ghost use Rattle.std.specs.Prelude.{◌≡◌, ◌++◌, Some};
 ghost use Rattle.pl_grammar.specs.Fit.{Ends};
 ghost use Rattle.pl_grammar.specs.Marks.{Tokens as Kinds};
 ghost use Rattle.pl_grammar.specs.Parser.{Reads};
-ghost use Rattle.pl_grammar.specs.Rule.{SpelledBy};
+ghost use Rattle.pl_grammar.specs.Rule.{SpelledBy, fork, make, part, ◌before◌, ◌until◌};
+ghost use Rattle.pl_grammar.specs.Words.{CASE, WHEN};
+ghost use Rattle.pl_sql_parse.specs.Words.{FOR};
+ghost use Rattle.pl_body_pieces.specs.Words.{SEMICOLON, WHILE};
+ghost use Rattle.pl_body_pieces.specs.declared.parts.Piece.TheVariants as piece;
 ghost use Rattle.pl_body_pieces.specs.Grammar as spec;
 ghost use Rattle.pl_body_pieces.specs.FirstFollow.{follow_last, reads, reads_part};
 
@@ -17,10 +21,12 @@ use crate::loops::for_head;
 use crate::marks::{ASSIGNING, CONTROL, CURSOR, DEFINITION, OPENING};
 use crate::parts::Piece;
 use crate::raise::handler;
-use crate::values::{becomes, boxed_expression, expressions, optional_name, target};
-use pl_base::{Boxed, Held, List};
+use crate::steps::until;
+use crate::values::{
+    becomes, boxed_expression, expression_until, expressions, optional_name, target,
+};
+use pl_base::{Boxed, List, Name};
 use pl_bodies::{LoopHead, Simple};
-use pl_expr_parse::read_expression;
 use pl_grammar::{Fail, Mark, Tokens};
 use pl_lex::{Keyword, Sign};
 use pl_sql_parse::read_definition;
@@ -29,28 +35,15 @@ use std::alloc::Global;
 
 // ---- parts of statements that hold others
 
-// e THEN
-#[tactic(auto, using(crate::proofs::Step::gives))]
-fn condition(alloc: Global, tokens: &mut Tokens<'_>) -> Result<Expr, Fail>
-    ensures { Reads (reads_part spec.Condition tokens.old) result tokens.new }
-{
-    let condition = Held::new(read_expression(alloc, tokens)?);
-    tokens.expect(Mark::Keyword(Keyword::Then))?;
-    Ok(condition.into_inner())
-}
-
 // e {, e} THEN
-#[tactic(auto, using(crate::proofs::Step::gives))]
 fn values(alloc: Global, tokens: &mut Tokens<'_>) -> Result<List<Expr>, Fail>
     ensures { Reads (reads_part spec.Values tokens.old) result tokens.new }
 {
-    let values = expressions(alloc, tokens)?;
-    tokens.expect(Mark::Keyword(Keyword::Then))?;
-    Ok(values)
+    let values = expressions(alloc, tokens);
+    until(values, tokens, Mark::Keyword(Keyword::Then))
 }
 
 // [e] WHEN e {, e} THEN
-#[tactic(auto, using(crate::proofs::Step::gives))]
 fn first_arm(
     alloc: Global,
     tokens: &mut Tokens<'_>,
@@ -58,89 +51,135 @@ fn first_arm(
     ensures { Reads (reads_part spec.FirstArm tokens.old) result tokens.new }
 {
     if tokens.eat(Mark::Keyword(Keyword::When)) {
-        return Ok((None, values(alloc, tokens)?));
+        return match values(alloc, tokens) {
+            Ok(values) => Ok((None, values)),
+            Err(fail) => Err(fail),
+        };
     }
-    let operand = boxed_expression(alloc, tokens)?;
-    tokens.expect(Mark::Keyword(Keyword::When))?;
-    let values = values(alloc, tokens)?;
-    Ok((Some(operand), values))
+    let operand = boxed_expression(alloc, tokens);
+    match until(operand, tokens, Mark::Keyword(Keyword::When)) {
+        Ok(operand) => match values(alloc, tokens) {
+            Ok(values) => Ok((Some(operand), values)),
+            Err(fail) => Err(fail),
+        },
+        Err(fail) => Err(fail),
+    }
 }
 
 // e LOOP, behind WHILE.
 fn while_head(alloc: Global, tokens: &mut Tokens<'_>) -> Result<Piece, Fail>
     ensures { Reads (reads spec.while_head tokens.old) result tokens.new }
 {
-    let condition = Held::new(read_expression(alloc, tokens)?);
-    tokens.expect(Mark::Keyword(Keyword::Loop))?;
-    Ok(Piece::Loop(LoopHead::While(condition.into_inner())))
+    match expression_until(alloc, tokens, Mark::Keyword(Keyword::Loop)) {
+        Ok(condition) => Ok(Piece::Loop(LoopHead::While(condition))),
+        Err(fail) => Err(fail),
+    }
 }
 
-// What opens a part of a statement that holds others.
-#[tactic(auto, using(crate::proofs::Step::gives))]
-fn opening(alloc: Global, tokens: &mut Tokens<'_>) -> Result<Piece, Fail>
-    ensures { Reads (reads_part spec.Opening tokens.old) result tokens.new }
+// ELSIF, behind that word.
+fn elsif(alloc: Global, tokens: &mut Tokens<'_>) -> Result<Piece, Fail>
+    ensures { Reads (reads (make piece.Elsif (part spec.Condition)) tokens.old)
+        result tokens.new }
 {
-    if tokens.eat(Mark::Keyword(Keyword::If)) {
-        return Ok(Piece::If(condition(alloc, tokens)?));
+    match expression_until(alloc, tokens, Mark::Keyword(Keyword::Then)) {
+        Ok(condition) => Ok(Piece::Elsif(condition)),
+        Err(fail) => Err(fail),
     }
-    if tokens.eat(Mark::Word("elsif")) {
-        return Ok(Piece::Elsif(condition(alloc, tokens)?));
-    }
-    if tokens.eat(Mark::Word("elseif")) {
-        return Ok(Piece::Elsif(condition(alloc, tokens)?));
-    }
+}
+
+// CASE, WHILE or FOR.
+fn case_or_loop(alloc: Global, tokens: &mut Tokens<'_>) -> Result<Piece, Fail>
+    ensures { Reads (reads (fork CASE (make (λ p. piece.Case p.0 p.1) (part spec.FirstArm))
+        (fork WHILE spec.while_head (FOR before make piece.Loop (part spec.For)))) tokens.old)
+        result tokens.new }
+{
     if tokens.eat(Mark::Keyword(Keyword::Case)) {
-        let (operand, values) = first_arm(alloc, tokens)?;
-        return Ok(Piece::Case { operand, values });
+        return match first_arm(alloc, tokens) {
+            Ok((operand, values)) => Ok(Piece::Case { operand, values }),
+            Err(fail) => Err(fail),
+        };
     }
     if tokens.eat(Mark::Keyword(Keyword::While)) {
         return while_head(alloc, tokens);
     }
-    tokens.expect(Mark::Keyword(Keyword::For))?;
-    Ok(Piece::Loop(for_head(alloc, tokens)?))
+    if tokens.eat(Mark::Keyword(Keyword::For)) {
+        return match for_head(alloc, tokens) {
+            Ok(head) => Ok(Piece::Loop(head)),
+            Err(fail) => Err(fail),
+        };
+    }
+    Err(Fail::Syntax)
+}
+
+// What opens a part of a statement that holds others.
+fn opening(alloc: Global, tokens: &mut Tokens<'_>) -> Result<Piece, Fail>
+    ensures { Reads (reads_part spec.Opening tokens.old) result tokens.new }
+{
+    if tokens.eat(Mark::Keyword(Keyword::If)) {
+        return match expression_until(alloc, tokens, Mark::Keyword(Keyword::Then)) {
+            Ok(condition) => Ok(Piece::If(condition)),
+            Err(fail) => Err(fail),
+        };
+    }
+    if tokens.eat(Mark::Word("elsif")) {
+        return elsif(alloc, tokens);
+    }
+    if tokens.eat(Mark::Word("elseif")) {
+        return elsif(alloc, tokens);
+    }
+    case_or_loop(alloc, tokens)
+}
+
+// [name];
+fn ended_label(tokens: &mut Tokens<'_>) -> Result<Option<Name>, Fail>
+    ensures { Reads (reads (part spec.OptionalName until SEMICOLON) tokens.old)
+        result tokens.new }
+{
+    let label = optional_name(tokens);
+    until(label, tokens, Mark::Sign(Sign::Semicolon))
 }
 
 // What is behind END.
-#[tactic(auto, using(crate::proofs::Step::gives))]
 fn ended(tokens: &mut Tokens<'_>) -> Result<Piece, Fail>
     ensures { Reads (reads_part spec.Ended tokens.old) result tokens.new }
 {
     if tokens.eat(Mark::Keyword(Keyword::If)) {
-        tokens.expect(Mark::Sign(Sign::Semicolon))?;
-        return Ok(Piece::EndIf);
+        return until(Ok(Piece::EndIf), tokens, Mark::Sign(Sign::Semicolon));
     }
     if tokens.eat(Mark::Keyword(Keyword::Case)) {
-        tokens.expect(Mark::Sign(Sign::Semicolon))?;
-        return Ok(Piece::EndCase);
+        return until(Ok(Piece::EndCase), tokens, Mark::Sign(Sign::Semicolon));
     }
     if tokens.eat(Mark::Keyword(Keyword::Loop)) {
-        let label = optional_name(tokens)?;
-        tokens.expect(Mark::Sign(Sign::Semicolon))?;
-        return Ok(Piece::EndLoop(label));
+        return match ended_label(tokens) {
+            Ok(label) => Ok(Piece::EndLoop(label)),
+            Err(fail) => Err(fail),
+        };
     }
-    let label = optional_name(tokens)?;
-    tokens.expect(Mark::Sign(Sign::Semicolon))?;
-    Ok(Piece::End(label))
+    match ended_label(tokens) {
+        Ok(label) => Ok(Piece::End(label)),
+        Err(fail) => Err(fail),
+    }
 }
 
 // ---- statements that hold no other
 
 // target (:= | =) e;
-#[tactic(auto, using(crate::proofs::Step::gives))]
 fn assignment(alloc: Global, tokens: &mut Tokens<'_>) -> Result<Simple, Fail>
     ensures { Reads (reads_part spec.Assignment tokens.old) result tokens.new }
 {
-    let target = target(tokens)?;
-    becomes(tokens)?;
-    let value = Held::new(read_expression(alloc, tokens)?);
-    tokens.expect(Mark::Sign(Sign::Semicolon))?;
-    Ok(Simple::Assign {
-        target,
-        value: value.into_inner(),
-    })
+    let target = match target(tokens) {
+        Ok(target) => target,
+        Err(fail) => return Err(fail),
+    };
+    match becomes(tokens) {
+        Ok(()) => match expression_until(alloc, tokens, Mark::Sign(Sign::Semicolon)) {
+            Ok(value) => Ok(Simple::Assign { target, value }),
+            Err(fail) => Err(fail),
+        },
+        Err(fail) => Err(fail),
+    }
 }
 
-#[tactic(auto, using(crate::proofs::Step::gives))]
 fn action(alloc: Global, tokens: &mut Tokens<'_>) -> Result<Simple, Fail>
     ensures { Reads (reads_part spec.Action tokens.old) result tokens.new }
 {
@@ -154,36 +193,57 @@ fn action(alloc: Global, tokens: &mut Tokens<'_>) -> Result<Simple, Fail>
 }
 
 // A statement that holds no other and is no assignment.
-#[tactic(auto, using(crate::proofs::Step::gives))]
 fn statement(alloc: Global, tokens: &mut Tokens<'_>) -> Result<Piece, Fail>
     ensures { Reads (reads_part spec.Statement tokens.old) result tokens.new }
 {
     if tokens.eat(Mark::Keyword(Keyword::Null)) {
-        tokens.expect(Mark::Sign(Sign::Semicolon))?;
-        return Ok(Piece::Simple(Simple::Null));
+        return until(
+            Ok(Piece::Simple(Simple::Null)),
+            tokens,
+            Mark::Sign(Sign::Semicolon),
+        );
     }
     if tokens.begins(&DEFINITION) {
-        let definition = Held::new(read_definition(alloc, tokens)?);
-        tokens.expect(Mark::Sign(Sign::Semicolon))?;
-        return Ok(Piece::Definition(definition.into_inner()));
+        let definition = read_definition(alloc, tokens);
+        return match until(definition, tokens, Mark::Sign(Sign::Semicolon)) {
+            Ok(definition) => Ok(Piece::Definition(definition)),
+            Err(fail) => Err(fail),
+        };
     }
-    Ok(Piece::Simple(action(alloc, tokens)?))
+    match action(alloc, tokens) {
+        Ok(simple) => Ok(Piece::Simple(simple)),
+        Err(fail) => Err(fail),
+    }
 }
 
 // ---- pieces
 
-#[tactic(auto, using(crate::proofs::Step::gives))]
+// WHEN and the first handler, behind EXCEPTION.
+fn exception(alloc: Global, tokens: &mut Tokens<'_>) -> Result<Piece, Fail>
+    ensures { Reads (reads (WHEN before make piece.Exception (part spec.Handler)) tokens.old)
+        result tokens.new }
+{
+    if tokens.eat(Mark::Keyword(Keyword::When)) {
+        return match handler(alloc, tokens) {
+            Ok(caught) => Ok(Piece::Exception(caught)),
+            Err(fail) => Err(fail),
+        };
+    }
+    Err(Fail::Syntax)
+}
+
 fn other_piece(alloc: Global, tokens: &mut Tokens<'_>) -> Result<Piece, Fail>
     ensures { Reads (reads_part spec.OtherPiece tokens.old) result tokens.new }
 {
     if tokens.eat(Mark::Sign(Sign::OpenLabel)) {
-        let label = tokens.name()?;
-        tokens.expect(Mark::Sign(Sign::CloseLabel))?;
-        return Ok(Piece::Label(label));
+        let label = tokens.name();
+        return match until(label, tokens, Mark::Sign(Sign::CloseLabel)) {
+            Ok(label) => Ok(Piece::Label(label)),
+            Err(fail) => Err(fail),
+        };
     }
     if tokens.eat(Mark::Word("exception")) {
-        tokens.expect(Mark::Keyword(Keyword::When))?;
-        return Ok(Piece::Exception(handler(alloc, tokens)?));
+        return exception(alloc, tokens);
     }
     if tokens.eat(Mark::Keyword(Keyword::End)) {
         return ended(tokens);
@@ -195,17 +255,18 @@ fn other_piece(alloc: Global, tokens: &mut Tokens<'_>) -> Result<Piece, Fail>
 }
 
 // An assignment, or a piece that begins with a word in capitals or with a label.
-#[tactic(auto, using(crate::proofs::Step::then_reads, crate::proofs::Step::else_reads))]
 fn assignment_or_other(alloc: Global, tokens: &mut Tokens<'_>) -> Result<Piece, Fail>
     ensures { Reads (reads spec.assignment_or_other tokens.old) result tokens.new }
 {
     if sees_pair(tokens, &[Mark::Name], &ASSIGNING) {
-        return Ok(Piece::Simple(assignment(alloc, tokens)?));
+        return match assignment(alloc, tokens) {
+            Ok(assigned) => Ok(Piece::Simple(assigned)),
+            Err(fail) => Err(fail),
+        };
     }
     other_piece(alloc, tokens)
 }
 
-#[tactic(auto, using(crate::proofs::Step::gives))]
 fn piece(alloc: Global, tokens: &mut Tokens<'_>) -> Result<Piece, Fail>
     ensures { Reads (reads_part spec.Piece tokens.old) result tokens.new }
 {
@@ -225,38 +286,45 @@ fn piece(alloc: Global, tokens: &mut Tokens<'_>) -> Result<Piece, Fail>
 }
 
 /// A piece of a block, in which WHEN begins a handler.
-#[tactic(auto, using(crate::proofs::Step::gives))]
 pub fn block_piece(alloc: Global, tokens: &mut Tokens<'_>) -> Result<Piece, Fail>
     ensures { Reads (reads_part spec.BlockPiece tokens.old) result tokens.new }
 {
     if tokens.eat(Mark::Keyword(Keyword::When)) {
-        return Ok(Piece::Handler(handler(alloc, tokens)?));
+        return match handler(alloc, tokens) {
+            Ok(caught) => Ok(Piece::Handler(caught)),
+            Err(fail) => Err(fail),
+        };
     }
     piece(alloc, tokens)
 }
 
 /// A piece of CASE, in which WHEN begins an arm.
-#[tactic(auto, using(crate::proofs::Step::gives))]
 pub fn case_piece(alloc: Global, tokens: &mut Tokens<'_>) -> Result<Piece, Fail>
     ensures { Reads (reads_part spec.CasePiece tokens.old) result tokens.new }
 {
     if tokens.eat(Mark::Keyword(Keyword::When)) {
-        return Ok(Piece::Arm(values(alloc, tokens)?));
+        return match values(alloc, tokens) {
+            Ok(values) => Ok(Piece::Arm(values)),
+            Err(fail) => Err(fail),
+        };
     }
     piece(alloc, tokens)
 }
 
 /// A declaration, or BEGIN.
-#[tactic(auto, using(crate::proofs::Step::gives))]
 pub fn declaration_piece(alloc: Global, tokens: &mut Tokens<'_>) -> Result<Piece, Fail>
     ensures { Reads (reads_part spec.DeclarationPiece tokens.old) result tokens.new }
 {
     if tokens.eat(Mark::Keyword(Keyword::Begin)) {
         return Ok(Piece::Begin);
     }
-    let name = tokens.name()?;
-    let kind = declared(alloc, tokens)?;
-    Ok(Piece::Declaration { name, kind })
+    match tokens.name() {
+        Ok(name) => match declared(alloc, tokens) {
+            Ok(kind) => Ok(Piece::Declaration { name, kind }),
+            Err(fail) => Err(fail),
+        },
+        Err(fail) => Err(fail),
+    }
 }
 
 /// What is read is spelled by the grammar, and what it spells is read.

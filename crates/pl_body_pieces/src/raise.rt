@@ -1,13 +1,18 @@
 //! Conditions, and RAISE: PostgreSQL manual, "Errors and Messages".
 
+ghost use Rattle.pl_bodies.specs.declared.simple.Raised.TheVariants as raised;
 ghost use Rattle.pl_grammar.specs.Parser.{Reads};
+ghost use Rattle.pl_grammar.specs.Rule.{make, part, ◌then◌, ◌until◌};
 ghost use Rattle.pl_body_pieces.specs.Grammar as spec;
-ghost use Rattle.pl_body_pieces.specs.FirstFollow.{reads_part};
+ghost use Rattle.pl_body_pieces.specs.FirstFollow.{reads, reads_part};
+ghost use Rattle.pl_body_pieces.specs.Trees.{raise_of};
+ghost use Rattle.pl_body_pieces.specs.Words.{SEMICOLON};
 
 use crate::ahead::sees_pair;
 use crate::marks::{LEVELS, RAISED};
+use crate::steps::until;
 use crate::values::{becomes, more_expressions};
-use pl_base::{Held, List, Txt};
+use pl_base::{List, Txt};
 use pl_bodies::{Caught, Condition, Level, Raise, RaiseOption, RaiseOptionKind, Raised, Simple};
 use pl_expr_parse::read_expression;
 use pl_grammar::{Fail, Mark, Tokens, list};
@@ -16,53 +21,53 @@ use pl_tree::Expr;
 use std::alloc::Global;
 
 // SQLSTATE text | name
-#[tactic(auto, using(crate::proofs::Step::ahead_steps))]
 fn condition_name(alloc: Global, tokens: &mut Tokens<'_>) -> Result<Condition, Fail>
     ensures { Reads (reads_part spec.ConditionName tokens.old) result tokens.new }
 {
     if sees_pair(tokens, &[Mark::Word("sqlstate")], &[Mark::Text]) {
-        tokens.expect(Mark::Word("sqlstate"))?;
-        return Ok(Condition::Code(tokens.text(alloc)?));
+        if tokens.eat(Mark::Word("sqlstate")) {
+            return match tokens.text(alloc) {
+                Ok(code) => Ok(Condition::Code(code)),
+                Err(fail) => Err(fail),
+            };
+        }
+        return Err(Fail::Syntax);
     }
-    Ok(Condition::Name(tokens.name()?))
+    match tokens.name() {
+        Ok(name) => Ok(Condition::Name(name)),
+        Err(fail) => Err(fail),
+    }
 }
 
 // OTHERS | condition
-#[tactic(auto, using(crate::proofs::Step::ahead_steps))]
 fn caught(alloc: Global, tokens: &mut Tokens<'_>) -> Result<Caught, Fail>
     ensures { Reads (reads_part spec.Caught tokens.old) result tokens.new }
 {
     if tokens.sees(Mark::Word("others")) {
-        tokens.expect(Mark::Word("others"))?;
-        return Ok(Caught::Others);
+        if tokens.eat(Mark::Word("others")) {
+            return Ok(Caught::Others);
+        }
+        return Err(Fail::Syntax);
     }
-    Ok(Caught::Condition(condition_name(alloc, tokens)?))
+    match condition_name(alloc, tokens) {
+        Ok(condition) => Ok(Caught::Condition(condition)),
+        Err(fail) => Err(fail),
+    }
 }
 
-// condition {OR condition}
-#[tactic(auto, using(crate::proofs::Step::gives))]
-fn conditions(alloc: Global, tokens: &mut Tokens<'_>) -> Result<List<Caught>, Fail>
-    ensures { Reads (reads_part spec.Conditions tokens.old) result tokens.new }
+/// What a handler catches, and THEN.
+pub(crate) fn handler(alloc: Global, tokens: &mut Tokens<'_>) -> Result<List<Caught>, Fail>
+    ensures { Reads (reads_part spec.Handler tokens.old) result tokens.new }
 {
-    list(
+    let conditions = list(
         alloc,
         tokens,
         Mark::Keyword(Keyword::Or),
         |tokens| caught(alloc, tokens),
-    )
+    );
+    until(conditions, tokens, Mark::Keyword(Keyword::Then))
 }
 
-/// What a handler catches, and THEN.
-#[tactic(auto, using(crate::proofs::Step::gives))]
-pub(crate) fn handler(alloc: Global, tokens: &mut Tokens<'_>) -> Result<List<Caught>, Fail>
-    ensures { Reads (reads_part spec.Handler tokens.old) result tokens.new }
-{
-    let conditions = conditions(alloc, tokens)?;
-    tokens.expect(Mark::Keyword(Keyword::Then))?;
-    Ok(conditions)
-}
-
-#[tactic(auto, using(crate::proofs::Step::gives))]
 fn level(tokens: &mut Tokens<'_>) -> Result<Level, Fail>
     ensures { Reads (reads_part spec.Level tokens.old) result tokens.new }
 {
@@ -81,11 +86,12 @@ fn level(tokens: &mut Tokens<'_>) -> Result<Level, Fail>
     if tokens.eat(Mark::Word("warning")) {
         return Ok(Level::Warning);
     }
-    tokens.expect(Mark::Word("exception"))?;
-    Ok(Level::Exception)
+    if tokens.eat(Mark::Word("exception")) {
+        return Ok(Level::Exception);
+    }
+    Err(Fail::Syntax)
 }
 
-#[tactic(auto, using(crate::proofs::Step::gives))]
 fn option_kind(tokens: &mut Tokens<'_>) -> Result<RaiseOptionKind, Fail>
     ensures { Reads (reads_part spec.OptionKind tokens.old) result tokens.new }
 {
@@ -98,80 +104,134 @@ fn option_kind(tokens: &mut Tokens<'_>) -> Result<RaiseOptionKind, Fail>
     if tokens.eat(Mark::Word("hint")) {
         return Ok(RaiseOptionKind::Hint);
     }
-    tokens.expect(Mark::Word("errcode"))?;
-    Ok(RaiseOptionKind::Errcode)
+    if tokens.eat(Mark::Word("errcode")) {
+        return Ok(RaiseOptionKind::Errcode);
+    }
+    Err(Fail::Syntax)
 }
 
 // option (:= | =) e
-#[tactic(auto, using(crate::proofs::Step::gives))]
 fn raise_option(alloc: Global, tokens: &mut Tokens<'_>) -> Result<RaiseOption, Fail>
     ensures { Reads (reads_part spec.RaiseOption tokens.old) result tokens.new }
 {
-    let kind = option_kind(tokens)?;
-    becomes(tokens)?;
-    let value = read_expression(alloc, tokens)?;
-    Ok(RaiseOption { kind, value })
+    let kind = match option_kind(tokens) {
+        Ok(kind) => kind,
+        Err(fail) => return Err(fail),
+    };
+    match becomes(tokens) {
+        Ok(()) => match read_expression(alloc, tokens) {
+            Ok(value) => Ok(RaiseOption { kind, value }),
+            Err(fail) => Err(fail),
+        },
+        Err(fail) => Err(fail),
+    }
 }
 
-// option {, option}
-#[tactic(auto, using(crate::proofs::Step::gives))]
-fn options(alloc: Global, tokens: &mut Tokens<'_>) -> Result<List<RaiseOption>, Fail>
-    ensures { Reads (reads_part spec.Options tokens.old) result tokens.new }
+// option {, option};
+fn last_options(alloc: Global, tokens: &mut Tokens<'_>) -> Result<List<RaiseOption>, Fail>
+    ensures { Reads (reads (part spec.Options until SEMICOLON) tokens.old) result tokens.new }
 {
-    list(
+    let options = list(
         alloc,
         tokens,
         Mark::Sign(Sign::Comma),
         |tokens| raise_option(alloc, tokens),
-    )
+    );
+    until(options, tokens, Mark::Sign(Sign::Semicolon))
 }
 
 // [USING options];
-#[tactic(auto, using(crate::proofs::Step::gives))]
 fn using_options(alloc: Global, tokens: &mut Tokens<'_>) -> Result<List<RaiseOption>, Fail>
     ensures { Reads (reads_part spec.UsingOptions tokens.old) result tokens.new }
 {
     if tokens.eat(Mark::Sign(Sign::Semicolon)) {
         return Ok(List::new(alloc));
     }
-    tokens.expect(Mark::Keyword(Keyword::Using))?;
-    let options = options(alloc, tokens)?;
-    tokens.expect(Mark::Sign(Sign::Semicolon))?;
-    Ok(options)
+    if tokens.eat(Mark::Keyword(Keyword::Using)) {
+        return last_options(alloc, tokens);
+    }
+    Err(Fail::Syntax)
 }
 
 // text {, e}
-#[tactic(auto, using(crate::proofs::Step::gives))]
 fn format(alloc: Global, tokens: &mut Tokens<'_>) -> Result<(Txt, List<Expr>), Fail>
     ensures { Reads (reads_part spec.Format tokens.old) result tokens.new }
 {
-    let format = tokens.text(alloc)?;
-    let arguments = more_expressions(alloc, tokens)?;
-    Ok((format, arguments))
+    match tokens.text(alloc) {
+        Ok(format) => match more_expressions(alloc, tokens) {
+            Ok(arguments) => Ok((format, arguments)),
+            Err(fail) => Err(fail),
+        },
+        Err(fail) => Err(fail),
+    }
+}
+
+// A text and options.
+fn raised_text(alloc: Global, tokens: &mut Tokens<'_>) -> Result<(Raised, List<RaiseOption>), Fail>
+    ensures { Reads (reads (make (λ p. (raised.Text p.0.0 p.0.1, p.1))
+        (part spec.Format then part spec.UsingOptions)) tokens.old) result tokens.new }
+{
+    match format(alloc, tokens) {
+        Ok((format, arguments)) => match using_options(alloc, tokens) {
+            Ok(options) => Ok((Raised::Text { format, arguments }, options)),
+            Err(fail) => Err(fail),
+        },
+        Err(fail) => Err(fail),
+    }
+}
+
+// A condition and options.
+fn raised_condition(
+    alloc: Global,
+    tokens: &mut Tokens<'_>,
+) -> Result<(Raised, List<RaiseOption>), Fail>
+    ensures { Reads (reads (make (λ p. (raised.Condition p.0, p.1))
+        (part spec.ConditionName then part spec.UsingOptions)) tokens.old) result tokens.new }
+{
+    match condition_name(alloc, tokens) {
+        Ok(condition) => match using_options(alloc, tokens) {
+            Ok(options) => Ok((Raised::Condition(condition), options)),
+            Err(fail) => {
+                drop(condition);
+                Err(fail)
+            }
+        },
+        Err(fail) => Err(fail),
+    }
 }
 
 // What is raised, its options and the semicolon.
-#[tactic(auto, using(crate::proofs::Step::gives))]
 fn raised(alloc: Global, tokens: &mut Tokens<'_>) -> Result<(Raised, List<RaiseOption>), Fail>
     ensures { Reads (reads_part spec.Raised tokens.old) result tokens.new }
 {
     if tokens.eat(Mark::Keyword(Keyword::Using)) {
-        let options = options(alloc, tokens)?;
-        tokens.expect(Mark::Sign(Sign::Semicolon))?;
-        return Ok((Raised::Nothing, options));
+        return match last_options(alloc, tokens) {
+            Ok(options) => Ok((Raised::Nothing, options)),
+            Err(fail) => Err(fail),
+        };
     }
     if tokens.sees(Mark::Text) {
-        let (format, arguments) = format(alloc, tokens)?;
-        let options = using_options(alloc, tokens)?;
-        return Ok((Raised::Text { format, arguments }, options));
+        return raised_text(alloc, tokens);
     }
-    let condition = Held::new(condition_name(alloc, tokens)?);
-    let options = using_options(alloc, tokens)?;
-    Ok((Raised::Condition(condition.into_inner()), options))
+    raised_condition(alloc, tokens)
+}
+
+// RAISE, behind its level.
+fn raised_at(alloc: Global, tokens: &mut Tokens<'_>, level: Level) -> Result<Simple, Fail>
+    ensures { Reads (reads (make (λ p. raise_of level p.0 p.1) (part spec.Raised)) tokens.old)
+        result tokens.new }
+{
+    match raised(alloc, tokens) {
+        Ok((raised, options)) => Ok(Simple::Raise(Raise {
+            level,
+            raised,
+            options,
+        })),
+        Err(fail) => Err(fail),
+    }
 }
 
 /// RAISE, behind that word.
-#[tactic(auto, using(crate::proofs::Step::ahead_steps))]
 pub(crate) fn raise(alloc: Global, tokens: &mut Tokens<'_>) -> Result<Simple, Fail>
     ensures { Reads (reads_part spec.Raise tokens.old) result tokens.new }
 {
@@ -179,18 +239,10 @@ pub(crate) fn raise(alloc: Global, tokens: &mut Tokens<'_>) -> Result<Simple, Fa
         return Ok(Simple::RaiseAgain);
     }
     if sees_pair(tokens, &LEVELS, &RAISED) {
-        let level = level(tokens)?;
-        let (raised, options) = raised(alloc, tokens)?;
-        return Ok(Simple::Raise(Raise {
-            level,
-            raised,
-            options,
-        }));
+        return match level(tokens) {
+            Ok(level) => raised_at(alloc, tokens, level),
+            Err(fail) => Err(fail),
+        };
     }
-    let (raised, options) = raised(alloc, tokens)?;
-    Ok(Simple::Raise(Raise {
-        level: Level::Exception,
-        raised,
-        options,
-    }))
+    raised_at(alloc, tokens, Level::Exception)
 }

@@ -38,7 +38,10 @@ pub(crate) fn change_of(command: Command) -> Result<Change, Fail>
         Command::Insert(insert) => Ok(Change::Insert(insert)),
         Command::Update(update) => Ok(Change::Update(update)),
         Command::Delete(delete) => Ok(Change::Delete(delete)),
-        _ => Err(Fail::Syntax),
+        other => {
+            drop(other);
+            Err(Fail::Syntax)
+        }
     }
 }
 
@@ -56,6 +59,7 @@ pub(crate) fn changed_of(change: Change, into: Option<IntoClause>) -> Result<Sim
     ensures { Makes (spec.changed_of change into) result }
 {
     if into.is_some() && returned(&change).is_empty() {
+        drop(change);
         return Err(Fail::Syntax);
     }
     Ok(Simple::Change { change, into })
@@ -173,7 +177,10 @@ fn cursor_of(alloc: Global, called: Expr) -> Result<ForSource, Fail>
             arguments: List::new(alloc),
         }),
         Expr::Call { name, arguments } => called_cursor(alloc, name, arguments),
-        _ => Err(Fail::Syntax),
+        other => {
+            drop(other);
+            Err(Fail::Syntax)
+        }
     }
 }
 
@@ -219,7 +226,11 @@ fn range_of(
     ensures { Makes (spec.for_one variable (λ n. head.Range n is_reverse first last step)) result }
 {
     match variable {
-        None => Err(Fail::Syntax),
+        None => {
+            drop(first);
+            drop(last);
+            Err(Fail::Syntax)
+        }
         Some(variable) => Ok(LoopHead::Range {
             variable,
             is_reverse,

@@ -3,14 +3,17 @@
 ghost use Rattle.std.specs.Prelude.{[], length};
 ghost use Rattle.pl_expr_parse.specs.Finished.{reads_front};
 ghost use Rattle.pl_expr_parse.specs.Grammar as x;
-ghost use Rattle.pl_grammar.specs.Forms.{alone, by};
+ghost use Rattle.pl_grammar.specs.Forms.{alone, by, optional};
+ghost use Rattle.pl_grammar.specs.Marks.{meant};
 ghost use Rattle.pl_grammar.specs.Parser.{Reads, links_from};
+ghost use Rattle.pl_grammar.specs.Rule.{◌until◌};
 ghost use Rattle.pl_grammar.specs.Words as w;
 ghost use Rattle.pl_body_pieces.specs.Grammar as spec;
 ghost use Rattle.pl_body_pieces.specs.FirstFollow.{reads, reads_part};
 
+use crate::steps::{either, until};
 use crate::trees::target_of;
-use pl_base::{Boxed, Held, List, Name};
+use pl_base::{Boxed, List, Name};
 use pl_bodies::{Dynamic, IntoClause, Target};
 use pl_expr_parse::read_expression;
 use pl_grammar::{Fail, Mark, Tokens, links, list};
@@ -19,31 +22,30 @@ use pl_tree::Expr;
 use std::alloc::Global;
 
 // `:=` or `=`
-#[tactic(auto, using(crate::proofs::Step::gives))]
 pub(crate) fn becomes(tokens: &mut Tokens<'_>) -> Result<(), Fail>
     ensures { Reads (reads_part spec.Becomes tokens.old) result tokens.new }
 {
-    if tokens.eat(Mark::Sign(Sign::Assign)) {
-        return Ok(());
-    }
-    tokens.expect(Mark::Sign(Sign::Equal))?;
-    Ok(())
+    either(tokens, Mark::Sign(Sign::Assign), Mark::Sign(Sign::Equal))
 }
 
 // name [. name]
-#[tactic(auto, using(crate::proofs::Step::gives))]
 pub(crate) fn target(tokens: &mut Tokens<'_>) -> Result<Target, Fail>
     ensures { Reads (reads_part spec.Target tokens.old) result tokens.new }
 {
-    let name = tokens.name()?;
+    let name = match tokens.name() {
+        Ok(name) => name,
+        Err(fail) => return Err(fail),
+    };
     if tokens.eat(Mark::Sign(Sign::Dot)) {
-        return Ok(target_of(name, Some(tokens.name()?)));
+        return match tokens.name() {
+            Ok(second) => Ok(target_of(name, Some(second))),
+            Err(fail) => Err(fail),
+        };
     }
     Ok(target_of(name, None))
 }
 
 // target {, target}
-#[tactic(auto, using(crate::proofs::Step::gives))]
 pub(crate) fn targets(alloc: Global, tokens: &mut Tokens<'_>) -> Result<List<Target>, Fail>
     ensures { Reads (reads_part spec.Targets tokens.old) result tokens.new }
 {
@@ -56,13 +58,14 @@ pub(crate) fn targets(alloc: Global, tokens: &mut Tokens<'_>) -> Result<List<Tar
 }
 
 // [STRICT] targets, behind INTO.
-#[tactic(auto, using(crate::proofs::Step::gives))]
 pub(crate) fn into(alloc: Global, tokens: &mut Tokens<'_>) -> Result<IntoClause, Fail>
     ensures { Reads (reads_part spec.Into tokens.old) result tokens.new }
 {
     let is_strict = tokens.eat(Mark::Keyword(Keyword::Strict));
-    let targets = targets(alloc, tokens)?;
-    Ok(IntoClause { is_strict, targets })
+    match targets(alloc, tokens) {
+        Ok(targets) => Ok(IntoClause { is_strict, targets }),
+        Err(fail) => Err(fail),
+    }
 }
 
 // [INTO into]
@@ -72,14 +75,16 @@ pub(crate) fn optional_into(
 ) -> Result<Option<IntoClause>, Fail>
     ensures { Reads (reads spec.optional_into tokens.old) result tokens.new }
 {
-    if !tokens.eat(Mark::Keyword(Keyword::Into)) {
-        return Ok(None);
+    if tokens.eat(Mark::Keyword(Keyword::Into)) {
+        return match into(alloc, tokens) {
+            Ok(into) => Ok(Some(into)),
+            Err(fail) => Err(fail),
+        };
     }
-    Ok(Some(into(alloc, tokens)?))
+    Ok(None)
 }
 
 // e {, e}
-#[tactic(auto, using(crate::proofs::Step::gives))]
 pub(crate) fn expressions(alloc: Global, tokens: &mut Tokens<'_>) -> Result<List<Expr>, Fail>
     ensures { Reads (reads_part spec.Expressions tokens.old) result tokens.new }
 {
@@ -105,36 +110,40 @@ pub(crate) fn more_expressions(alloc: Global, tokens: &mut Tokens<'_>) -> Result
 }
 
 // [USING e {, e}]
-#[tactic(auto, using(crate::proofs::Step::gives))]
 pub(crate) fn using(alloc: Global, tokens: &mut Tokens<'_>) -> Result<List<Expr>, Fail>
     ensures { Reads (reads_part spec.Using tokens.old) result tokens.new }
 {
-    if !tokens.eat(Mark::Keyword(Keyword::Using)) {
-        return Ok(List::new(alloc));
+    if tokens.eat(Mark::Keyword(Keyword::Using)) {
+        return expressions(alloc, tokens);
     }
-    expressions(alloc, tokens)
+    Ok(List::new(alloc))
 }
 
 // e [USING e {, e}]
-#[tactic(auto, using(crate::proofs::Step::gives))]
 pub(crate) fn dynamic(alloc: Global, tokens: &mut Tokens<'_>) -> Result<Dynamic, Fail>
     ensures { Reads (reads_part spec.Dynamic tokens.old) result tokens.new }
 {
-    let text = Held::new(read_expression(alloc, tokens)?);
-    let arguments = using(alloc, tokens)?;
-    Ok(Dynamic {
-        text: text.into_inner(),
-        arguments,
-    })
+    match read_expression(alloc, tokens) {
+        Ok(text) => match using(alloc, tokens) {
+            Ok(arguments) => Ok(Dynamic { text, arguments }),
+            Err(fail) => {
+                drop(text);
+                Err(fail)
+            }
+        },
+        Err(fail) => Err(fail),
+    }
 }
 
 // [name]
-#[tactic(auto, using(crate::proofs::Step::gives))]
 pub(crate) fn optional_name(tokens: &mut Tokens<'_>) -> Result<Option<Name>, Fail>
     ensures { Reads (reads_part spec.OptionalName tokens.old) result tokens.new }
 {
     if tokens.sees(Mark::Name) {
-        return Ok(Some(tokens.name()?));
+        return match tokens.name() {
+            Ok(name) => Ok(Some(name)),
+            Err(fail) => Err(fail),
+        };
     }
     Ok(None)
 }
@@ -143,6 +152,38 @@ pub(crate) fn optional_name(tokens: &mut Tokens<'_>) -> Result<Option<Name>, Fai
 pub(crate) fn boxed_expression(alloc: Global, tokens: &mut Tokens<'_>) -> Result<Boxed<Expr>, Fail>
     ensures { Reads (reads_front x.Expression tokens.old) result tokens.new }
 {
-    let value = read_expression(alloc, tokens)?;
-    Ok(Boxed::new(alloc, value)?)
+    match read_expression(alloc, tokens) {
+        Ok(value) => Ok(Boxed::new(alloc, value)?),
+        Err(fail) => Err(fail),
+    }
+}
+
+// [mark e]
+pub(crate) fn optional_expression(
+    alloc: Global,
+    tokens: &mut Tokens<'_>,
+    mark: Mark,
+) -> Result<Option<Boxed<Expr>>, Fail>
+    ensures { Reads (reads (optional (meant mark) spec.expression) tokens.old)
+        result tokens.new }
+{
+    if tokens.eat(mark) {
+        return match boxed_expression(alloc, tokens) {
+            Ok(value) => Ok(Some(value)),
+            Err(fail) => Err(fail),
+        };
+    }
+    Ok(None)
+}
+
+// e and the mark behind it.
+pub(crate) fn expression_until(
+    alloc: Global,
+    tokens: &mut Tokens<'_>,
+    mark: Mark,
+) -> Result<Expr, Fail>
+    ensures { Reads (reads (spec.expression until meant mark) tokens.old) result tokens.new }
+{
+    let value = read_expression(alloc, tokens);
+    until(value, tokens, mark)
 }

@@ -1,20 +1,10 @@
-use Rattle.std.proofs.Common.{rules, ◌≡◌, Some, None}
-use Rattle.pl_grammar.specs.Parser.{expect}
-use Rattle.pl_grammar.specs.declared.fail.Fail.TheVariants.{Syntax}
-use Rattle.pl_sql_parse.specs.Words.{TRANSACTION}
+use Rattle.std.proofs.Common.{refl}
+use Rattle.pl_body_pieces.specs.Grammar as spec
+use Rattle.pl_body_pieces.proofs.Step.{was, reading, so_read, behind, absent}
 use Rattle.pl_body_pieces.proofs.commands.started.Goals as goal
 
-pub returns-in_err-expect : goal.returns-in_err-expect
-returns-in_err-expect c =
-    let none : c.in_err-expect.field-0.0 ≡ Syntax → expect TRANSACTION c.args.tokens.now ≡ None = c.in_err-expect.ensures in
-    search rules
-
-pub returns-in_err-expect-2 : goal.returns-in_err-expect-2
-returns-in_err-expect-2 c =
-    let is : expect TRANSACTION c.args.tokens.now ≡ Some (c.in_ok-expect.field-0, c.expect.new.self) = c.in_ok-expect.ensures in
-    search rules
+pub returns-then-eat : goal.returns-then-eat
+returns-then-eat c = so_read _ _ _ _ (reading spec.started _ _ (behind _ _ _ _ _ _ _ refl c.eat.ensures.result c.if-eat.true c.eat.ensures.new (was _ _ _ refl))) (c.until.ensures _ refl)
 
 pub returns : goal.returns
-returns c =
-    let is : expect TRANSACTION c.args.tokens.now ≡ Some (c.in_ok-expect.field-0, c.expect.new.self) = c.in_ok-expect.ensures in
-    search rules
+returns c = λ s. reading spec.started _ _ (absent _ _ _ _ _ refl c.eat.ensures.result c.if-eat.false)

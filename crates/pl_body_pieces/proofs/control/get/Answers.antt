@@ -1,14 +1,16 @@
-use Rattle.std.proofs.Common.{◌≡◌, ◌∙◌, sym, true}
-use Rattle.pl_grammar.specs.Marks.{sees, after}
-use Rattle.pl_body_pieces.specs.Grammar.{Get, stacked_diagnostics}
-use Rattle.pl_body_pieces.specs.FirstFollow.{reads, reads_part}
-use Rattle.pl_body_pieces.specs.Words.{STACKED}
-use Rattle.pl_body_pieces.proofs.Step.{step, so_read, fork_then}
+use Rattle.std.proofs.Common.{refl}
+use Rattle.pl_body_pieces.specs.Grammar.{Get}
+use Rattle.pl_body_pieces.proofs.Step.{was, gives, so_read, took, left, behind, absent, skipped, makes, makes_none, pairs, second_none}
 use Rattle.pl_body_pieces.proofs.control.get.Goals as goal
 
 pub returns-then-eat : goal.returns-then-eat
-returns-then-eat c =
-    let s : sees STACKED c.args.tokens.now ≡ true = sym c.eat.ensures.result ∙ c.if-eat.true in
-    let n : c.eat.new.self ≡ after STACKED c.args.tokens.now = c.eat.ensures.new in
-    let e = step Get c.args.tokens.now ∙ fork_then STACKED _ _ c.args.tokens.now c.eat.new.self s n in
-    so_read (reads_part Get c.args.tokens.now) (reads stacked_diagnostics c.eat.new.self) c.stacked_diagnostics.result c.stacked_diagnostics.new.tokens e c.stacked_diagnostics.ensures
+returns-then-eat c = so_read _ _ _ _ (gives Get _ _ (took _ _ _ _ _ _ _ _ refl c.eat.ensures.result c.if-eat.true c.eat.ensures.new (was _ _ _ refl))) c.stacked_diagnostics.ensures
+
+pub returns : goal.returns
+returns c = λ s. gives Get _ _ (left _ _ _ _ _ _ _ _ refl c.eat.ensures.result c.if-eat.false c.eat.ensures.new (makes_none _ _ _ _ refl (second_none _ _ _ _ _ _ refl (skipped _ _ _ _ _ refl c.eat-2.ensures.result c.eat-2.ensures.new) (absent _ _ _ _ _ refl c.eat-3.ensures.result c.if-eat-2.false))))
+
+pub returns-in-Ok : goal.returns-in-Ok
+returns-in-Ok c = gives Get _ _ (left _ _ _ _ _ _ _ _ refl c.eat.ensures.result c.if-eat.false c.eat.ensures.new (makes _ _ _ _ _ _ _ refl (pairs _ _ _ _ _ _ _ _ refl (skipped _ _ _ _ _ refl c.eat-2.ensures.result c.eat-2.ensures.new) (behind _ _ _ _ _ _ _ refl c.eat-3.ensures.result c.if-eat-2.true c.eat-3.ensures.new (was _ _ _ c.in-Ok.ensures))) refl))
+
+pub returns-in-Err : goal.returns-in-Err
+returns-in-Err c = λ s. gives Get _ _ (left _ _ _ _ _ _ _ _ refl c.eat.ensures.result c.if-eat.false c.eat.ensures.new (makes_none _ _ _ _ refl (second_none _ _ _ _ _ _ refl (skipped _ _ _ _ _ refl c.eat-2.ensures.result c.eat-2.ensures.new) (behind _ _ _ _ _ _ _ refl c.eat-3.ensures.result c.if-eat-2.true c.eat-3.ensures.new (was _ _ _ (c.in-Err.ensures s))))))

@@ -1,41 +1,19 @@
-use Rattle.std.proofs.Common.{rules, ◌≡◌, ◌∙◌, sym, refl, true, false}
-use Rattle.pl_bodies.specs.declared.simple.Simple.TheVariants as simple
-use Rattle.pl_grammar.specs.Marks.{sees, after}
-use Rattle.pl_grammar.specs.Rule.{part, make, ◌before◌}
-use Rattle.pl_body_pieces.specs.Grammar.{Return, ReturnNext, returned_value, returns_next}
-use Rattle.pl_body_pieces.specs.FirstFollow.{reads, reads_part}
-use Rattle.pl_body_pieces.specs.Words.{NEXT, SEMICOLON}
-use Rattle.pl_body_pieces.proofs.Step.{step, so_read, fork_else, then_reads, else_reads}
+use Rattle.std.proofs.Common.{refl}
+use Rattle.pl_body_pieces.specs.Grammar.{Return}
+use Rattle.pl_body_pieces.proofs.Step.{was, gives, so_read, took, left, behind, absent, told, untold, makes, makes_none}
 use Rattle.pl_body_pieces.proofs.control.return_of.Goals as goal
 
-pub returns-in_err-expect : goal.returns-in_err-expect
-returns-in_err-expect c =
-    let s : sees SEMICOLON c.args.tokens.now ≡ false = sym c.eat.ensures.result ∙ c.if-eat.false in
-    let n : c.eat.new.self ≡ after SEMICOLON c.args.tokens.now = c.eat.ensures.new in
-    let told : returns_next c.eat.new.self ≡ true = sym c.sees_pair.ensures ∙ c.if-sees_pair.true in
-    let e : reads_part Return c.args.tokens.now ≡ reads (NEXT before make simple.ReturnNext (part ReturnNext)) c.eat.new.self = step Return c.args.tokens.now ∙ fork_else SEMICOLON _ _ c.args.tokens.now c.eat.new.self s n ∙ then_reads (returns_next c.eat.new.self) _ _ c.eat.new.self _ told refl in
-    first_of (search rules, cc)
-
-pub returns-in_err-return_next : goal.returns-in_err-return_next
-returns-in_err-return_next c =
-    let s : sees SEMICOLON c.args.tokens.now ≡ false = sym c.eat.ensures.result ∙ c.if-eat.false in
-    let n : c.eat.new.self ≡ after SEMICOLON c.args.tokens.now = c.eat.ensures.new in
-    let told : returns_next c.eat.new.self ≡ true = sym c.sees_pair.ensures ∙ c.if-sees_pair.true in
-    let e : reads_part Return c.args.tokens.now ≡ reads (NEXT before make simple.ReturnNext (part ReturnNext)) c.eat.new.self = step Return c.args.tokens.now ∙ fork_else SEMICOLON _ _ c.args.tokens.now c.eat.new.self s n ∙ then_reads (returns_next c.eat.new.self) _ _ c.eat.new.self _ told refl in
-    first_of (search rules, cc)
-
-pub returns-then-sees_pair : goal.returns-then-sees_pair
-returns-then-sees_pair c =
-    let s : sees SEMICOLON c.args.tokens.now ≡ false = sym c.eat.ensures.result ∙ c.if-eat.false in
-    let n : c.eat.new.self ≡ after SEMICOLON c.args.tokens.now = c.eat.ensures.new in
-    let told : returns_next c.eat.new.self ≡ true = sym c.sees_pair.ensures ∙ c.if-sees_pair.true in
-    let e : reads_part Return c.args.tokens.now ≡ reads (NEXT before make simple.ReturnNext (part ReturnNext)) c.eat.new.self = step Return c.args.tokens.now ∙ fork_else SEMICOLON _ _ c.args.tokens.now c.eat.new.self s n ∙ then_reads (returns_next c.eat.new.self) _ _ c.eat.new.self _ told refl in
-    first_of (search rules, cc)
+pub returns-then-eat : goal.returns-then-eat
+returns-then-eat c = gives Return _ _ (took _ _ _ _ _ _ _ _ refl c.eat.ensures.result c.if-eat.true c.eat.ensures.new (was _ _ _ refl))
 
 pub returns : goal.returns
-returns c =
-    let s : sees SEMICOLON c.args.tokens.now ≡ false = sym c.eat.ensures.result ∙ c.if-eat.false in
-    let n : c.eat.new.self ≡ after SEMICOLON c.args.tokens.now = c.eat.ensures.new in
-    let told : returns_next c.eat.new.self ≡ false = sym c.sees_pair.ensures ∙ c.if-sees_pair.false in
-    let e : reads_part Return c.args.tokens.now ≡ reads (returned_value) c.eat.new.self = step Return c.args.tokens.now ∙ fork_else SEMICOLON _ _ c.args.tokens.now c.eat.new.self s n ∙ else_reads (returns_next c.eat.new.self) _ _ c.eat.new.self _ told refl in
-    so_read (reads_part Return c.args.tokens.now) (reads returned_value c.eat.new.self) c.returned_value.result c.returned_value.new.tokens e c.returned_value.ensures
+returns c = so_read _ _ _ _ (gives Return _ _ (left _ _ _ _ _ _ _ _ refl c.eat.ensures.result c.if-eat.false c.eat.ensures.new (untold _ _ _ _ _ _ _ _ refl c.sees_pair.ensures c.if-sees_pair.false (was _ _ _ refl)))) c.returned_value.ensures
+
+pub returns-then-sees_pair : goal.returns-then-sees_pair
+returns-then-sees_pair c = λ s. gives Return _ _ (left _ _ _ _ _ _ _ _ refl c.eat.ensures.result c.if-eat.false c.eat.ensures.new (told _ _ _ _ _ _ _ _ refl c.sees_pair.ensures c.if-sees_pair.true (absent _ _ _ _ _ refl c.eat-then-sees_pair.ensures.result c.if-eat-2.false)))
+
+pub returns-in-Ok : goal.returns-in-Ok
+returns-in-Ok c = gives Return _ _ (left _ _ _ _ _ _ _ _ refl c.eat.ensures.result c.if-eat.false c.eat.ensures.new (told _ _ _ _ _ _ _ _ refl c.sees_pair.ensures c.if-sees_pair.true (behind _ _ _ _ _ _ _ refl c.eat-then-sees_pair.ensures.result c.if-eat-2.true c.eat-then-sees_pair.ensures.new (makes _ _ _ _ _ _ _ refl (was _ _ _ c.in-Ok.ensures) refl))))
+
+pub returns-in-Err : goal.returns-in-Err
+returns-in-Err c = λ s. gives Return _ _ (left _ _ _ _ _ _ _ _ refl c.eat.ensures.result c.if-eat.false c.eat.ensures.new (told _ _ _ _ _ _ _ _ refl c.sees_pair.ensures c.if-sees_pair.true (behind _ _ _ _ _ _ _ refl c.eat-then-sees_pair.ensures.result c.if-eat-2.true c.eat-then-sees_pair.ensures.new (makes_none _ _ _ _ refl (was _ _ _ (c.in-Err.ensures s))))))

@@ -1,20 +1,13 @@
-use Rattle.std.proofs.Common.{rules, ◌≡◌, Some, None}
-use Rattle.pl_grammar.specs.Parser.{expect}
-use Rattle.pl_grammar.specs.declared.fail.Fail.TheVariants.{Syntax}
-use Rattle.pl_body_pieces.specs.Words.{DIAGNOSTICS}
+use Rattle.std.proofs.Common.{refl}
+use Rattle.pl_body_pieces.specs.Grammar as spec
+use Rattle.pl_body_pieces.proofs.Step.{was, reading, behind, absent, makes, makes_none}
 use Rattle.pl_body_pieces.proofs.control.stacked_diagnostics.Goals as goal
 
-pub returns-in_err-expect : goal.returns-in_err-expect
-returns-in_err-expect c =
-    let none : c.in_err-expect.field-0.0 ≡ Syntax → expect DIAGNOSTICS c.args.tokens.now ≡ None = c.in_err-expect.ensures in
-    search rules
-
-pub returns-in_err-targets : goal.returns-in_err-targets
-returns-in_err-targets c =
-    let is : expect DIAGNOSTICS c.args.tokens.now ≡ Some (c.in_ok-expect.field-0, c.expect.new.self) = c.in_ok-expect.ensures in
-    search rules
-
 pub returns : goal.returns
-returns c =
-    let is : expect DIAGNOSTICS c.args.tokens.now ≡ Some (c.in_ok-expect.field-0, c.expect.new.self) = c.in_ok-expect.ensures in
-    search rules
+returns c = λ s. reading spec.stacked_diagnostics _ _ (absent _ _ _ _ _ refl c.eat.ensures.result c.if-eat.false)
+
+pub returns-in-Ok : goal.returns-in-Ok
+returns-in-Ok c = reading spec.stacked_diagnostics _ _ (behind _ _ _ _ _ _ _ refl c.eat.ensures.result c.if-eat.true c.eat.ensures.new (makes _ _ _ _ _ _ _ refl (was _ _ _ c.in-Ok.ensures) refl))
+
+pub returns-in-Err : goal.returns-in-Err
+returns-in-Err c = λ s. reading spec.stacked_diagnostics _ _ (behind _ _ _ _ _ _ _ refl c.eat.ensures.result c.if-eat.true c.eat.ensures.new (makes_none _ _ _ _ refl (was _ _ _ (c.in-Err.ensures s))))

@@ -1,6 +1,7 @@
 use Rattle.std.proofs.Common.{rules}
 use Rattle.pl_expr_parse.specs.Grammar as x
 use Rattle.pl_expr_parse.specs.Finished.{reads_front}
+use Rattle.pl_expr_parse.specs.Finished.{reads_front}
 use Rattle.pl_body_pieces.specs.Grammar.{Expressions}
 use Rattle.pl_body_pieces.proofs.Step.{reads_rule}
 use Rattle.pl_body_pieces.proofs.values.expressions.Goals as goal

@@ -1,6 +1,6 @@
 use Rattle.std.proofs.Common.{rules}
-use Rattle.pl_body_pieces.specs.Grammar.{Targets, Target}
 use Rattle.pl_body_pieces.specs.FirstFollow.{reads_part}
+use Rattle.pl_body_pieces.specs.Grammar.{Target, Targets}
 use Rattle.pl_body_pieces.proofs.Step.{reads_rule}
 use Rattle.pl_body_pieces.proofs.values.targets.Goals as goal
 

@@ -1,0 +1,22 @@
+use Rattle.std.proofs.Common.{refl}
+use Rattle.pl_body_pieces.specs.Grammar.{OtherPiece}
+use Rattle.pl_body_pieces.proofs.Step.{was, gives, so_read, took, left, begun, other, makes, makes_none}
+use Rattle.pl_body_pieces.proofs.pieces.other_piece.Goals as goal
+
+pub returns-in-Ok : goal.returns-in-Ok
+returns-in-Ok c = gives OtherPiece _ _ (took _ _ _ _ _ _ _ _ refl c.eat.ensures.result c.if-eat.true c.eat.ensures.new (makes _ _ _ _ _ _ _ refl (was _ _ _ (c.in-Ok.ensures _ c.name-label.ensures)) refl))
+
+pub returns-in-Err : goal.returns-in-Err
+returns-in-Err c = λ s. gives OtherPiece _ _ (took _ _ _ _ _ _ _ _ refl c.eat.ensures.result c.if-eat.true c.eat.ensures.new (makes_none _ _ _ _ refl (was _ _ _ (c.in-Err.ensures _ c.name-label.ensures s))))
+
+pub returns-then-eat-2 : goal.returns-then-eat-2
+returns-then-eat-2 c = so_read _ _ _ _ (gives OtherPiece _ _ (left _ _ _ _ _ _ _ _ refl c.eat.ensures.result c.if-eat.false c.eat.ensures.new (took _ _ _ _ _ _ _ _ refl c.eat-2.ensures.result c.if-eat-2.true c.eat-2.ensures.new (was _ _ _ refl)))) c.exception.ensures
+
+pub returns-then-eat-3 : goal.returns-then-eat-3
+returns-then-eat-3 c = so_read _ _ _ _ (gives OtherPiece _ _ (left _ _ _ _ _ _ _ _ refl c.eat.ensures.result c.if-eat.false c.eat.ensures.new (left _ _ _ _ _ _ _ _ refl c.eat-2.ensures.result c.if-eat-2.false c.eat-2.ensures.new (took _ _ _ _ _ _ _ _ refl c.eat-3.ensures.result c.if-eat-3.true c.eat-3.ensures.new (was _ _ _ refl))))) c.ended.ensures
+
+pub returns-then-begins : goal.returns-then-begins
+returns-then-begins c = so_read _ _ _ _ (gives OtherPiece _ _ (left _ _ _ _ _ _ _ _ refl c.eat.ensures.result c.if-eat.false c.eat.ensures.new (left _ _ _ _ _ _ _ _ refl c.eat-2.ensures.result c.if-eat-2.false c.eat-2.ensures.new (left _ _ _ _ _ _ _ _ refl c.eat-3.ensures.result c.if-eat-3.false c.eat-3.ensures.new (begun _ _ _ _ _ _ refl c.begins.ensures c.if-begins.true (was _ _ _ refl)))))) c.opening.ensures
+
+pub returns : goal.returns
+returns c = so_read _ _ _ _ (gives OtherPiece _ _ (left _ _ _ _ _ _ _ _ refl c.eat.ensures.result c.if-eat.false c.eat.ensures.new (left _ _ _ _ _ _ _ _ refl c.eat-2.ensures.result c.if-eat-2.false c.eat-2.ensures.new (left _ _ _ _ _ _ _ _ refl c.eat-3.ensures.result c.if-eat-3.false c.eat-3.ensures.new (other _ _ _ _ _ _ refl c.begins.ensures c.if-begins.false (was _ _ _ refl)))))) c.statement.ensures

@@ -1,8 +1,0 @@
-use Rattle.std.proofs.Common.{rules}
-use Rattle.pl_body_pieces.specs.Grammar.{Conditions, Caught}
-use Rattle.pl_body_pieces.specs.FirstFollow.{reads_part}
-use Rattle.pl_body_pieces.proofs.Step.{reads_rule}
-use Rattle.pl_body_pieces.proofs.raise.conditions.Goals as goal
-
-pub returns : goal.returns
-returns c = reads_rule Conditions _ _ _ (c.list.ensures (reads_part Caught) (record { reads = λ old new r p. search rules }))
