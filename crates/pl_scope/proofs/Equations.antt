@@ -246,7 +246,3 @@ query_out q = query_raw q ∙ ap (λ (ks : List KeyPart). query_by (parts_of q k
 pub ruleset equations = (part_literal, part_parameter, part_name, part_qualified, part_call, part_count_rows, part_subquery, part_exists, part_pick, part_null_if, part_row, part_cast, part_signed, part_concat, part_between, part_in_list, part_in_query, part_like, part_compare, part_is, part_is_distinct, part_not, part_and, part_or, part_sum_view, part_product_view, part_case_view)
 
 pub ruleset argument_equations = (argument_value, argument_named)
-
-pub ruleset from_equations = (from_table, from_function, from_query, from_joined)
-
-pub ruleset item_equations = (item_value, item_all, item_all_of)

@@ -16,7 +16,7 @@ handed_on m (Ok x) why made passed is = absurd passed
 handed_on {A} m (Err e) why made passed is =
     subst (λ (e : ScopeFail). Meets {A = A} m (Err e) made) (sym passed) is
 
-failed : {A B : Type 0} (m : Answer A) (f : A → Made → Answer B) (why : ScopeFail) (made last : Made)
+pub failed : {A B : Type 0} (m : Answer A) (f : A → Made → Answer B) (why : ScopeFail) (made last : Made)
     → Meets {A = A} m (Err why) made → Meets {A = B} (then_answer m f) (Err why) last
 failed {A} m f (Fails state) made last is = ap (λ (m : Answer A). then_answer m f) is
 failed m f Memory made last is = is

@@ -1,7 +1,10 @@
 pub mod Answers
+pub mod Following
 pub mod Named
 pub mod Parts
 pub mod Steps
 pub mod Expressions
+pub mod Gathered
+pub mod Joining
 pub mod Queries
 pub mod Resolution

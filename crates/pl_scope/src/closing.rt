@@ -5,7 +5,7 @@ ghost use Rattle.pl_scope.specs.Answers.{Meets};
 ghost use Rattle.pl_scope.specs.Steps as spec;
 
 use crate::{Current, Inner, Made, Ordered};
-use pl_base::{Boxed, List, State};
+use pl_base::{Boxed, Held, List, State};
 use pl_grouping::{reads, reads_any};
 use pl_names::Items;
 use pl_resolved::{Head, RAggregate, RExpr, RGroups, RJoin, RKey, RQuery};
@@ -145,15 +145,15 @@ fn query_of(clauses: Clauses, aggregates: List<RAggregate>) -> RQuery
 
 fn closed_as(
     alloc: Global,
-    query: RQuery,
+    query: Held<RQuery>,
     outer: Current,
     made: &mut Made,
 ) -> Result<Inner, ScopeFail>
     ensures { Meets (spec.closed_as query outer made.old) result made.new }
 {
-    let heads = List::from_slice(alloc, query.heads.as_slice())?;
+    let heads = List::from_slice(alloc, query.get().heads.as_slice())?;
     let number = made.queries.len();
-    made.queries.push(query)?;
+    made.queries.push(query.into_inner())?;
     made.current = outer;
     Ok(Inner { number, heads })
 }
@@ -171,10 +171,12 @@ pub fn close(
 ) -> Result<Inner, ScopeFail>
     ensures { Meets (spec.closed clauses outer first end made.old) result made.new }
 {
-    let is_grouped = is_grouped(&clauses, made.current.aggregates.as_slice());
-    if is_grouped && is_ungrouped(alloc, &clauses, &*made, first, end)? {
+    let clauses = Held::new(clauses);
+    let is_grouped = is_grouped(clauses.get(), made.current.aggregates.as_slice());
+    if is_grouped && is_ungrouped(alloc, clauses.get(), &*made, first, end)? {
         return Err(ScopeFail::State(State::GROUPING_ERROR));
     }
     let aggregates = mem::replace(&mut made.current.aggregates, List::new(alloc));
-    closed_as(alloc, query_of(clauses, aggregates), outer, made)
+    let query = Held::new(query_of(clauses.into_inner(), aggregates));
+    closed_as(alloc, query, outer, made)
 }

@@ -8,7 +8,7 @@ ghost use Rattle.pl_scope.specs.Expressions as spec;
 ghost use Rattle.pl_typing.specs.Aggregates as typing;
 
 use crate::Made;
-use pl_base::{Boxed, Name, State, Ty};
+use pl_base::{Boxed, Held, Name, State, Ty};
 use pl_grouping::{aggregate_place, reads_any};
 use pl_names::Names;
 use pl_resolved::{Aggregate, RAggregate, RExpr, RQuery};
@@ -86,11 +86,12 @@ fn collected_by(
         made.new }
 {
     let TypedAggregate { aggregate, ty } = aggregated;
+    let aggregate = Held::new(aggregate);
     match found {
         Some(place) => Ok(aggregate_at(alloc, place, ty, head, names)?),
         None => {
             let typed = aggregate_at(alloc, made.current.aggregates.len(), ty, head, names)?;
-            made.current.aggregates.push(aggregate)?;
+            made.current.aggregates.push(aggregate.into_inner())?;
             Ok(typed)
         }
     }

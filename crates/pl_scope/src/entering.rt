@@ -1,16 +1,20 @@
 //! What names mean inside of a query, and joins.
 
-ghost use Rattle.std.specs.Prelude.{◌≡◌, ◌+◌, ◌<◌, ◌^◌, [], ◌∷◌, ◌++◌, map, IfOk};
+ghost use Rattle.std.specs.Prelude.{◌≡◌, ◌+◌, ◌<◌, ◌^◌, [], ◌∷◌, ◌++◌, map, IfOk, Ok};
 ghost use Rattle.pl_catalog.specs.Objects.{routines_in, tables_in};
 ghost use Rattle.pl_names.specs.Names.{around, reach};
 ghost use Rattle.pl_scope.specs.Expressions.{no_aggregates};
+ghost use Rattle.pl_scope.specs.Following.{Follows};
+ghost use Rattle.pl_scope.specs.Joining as joining;
 ghost use Rattle.pl_scope.specs.Steps as spec;
+ghost use Rattle.pl_typing.specs.Resolved.{Gives};
 
 use pl_base::{Boxed, List, Memory};
 use pl_catalog::Catalog;
-use pl_names::{Level, Names, Scope, Source, Sourced};
+use pl_names::{Level, Names, Scope, Source, Sourced, together};
 use pl_resolved::{RExpr, RJoin, RSource};
 use pl_tree::JoinKind;
+use pl_typing::ScopeFail;
 use std::alloc::{AllocError, Global};
 
 /// The row behind so many more. Where it doesn't fit there is no memory for so many either.
@@ -97,8 +101,88 @@ fn is_left(kind: JoinKind) -> bool
     }
 }
 
-/// What is joined, with one more join, whose items the last ones of `sources` are.
-pub fn joined(
+/// What is joined, and what stands to the right of the next JOIN.
+#[derive(Drop)]
+pub(crate) struct Both {
+    pub joins: List<RJoin>,
+    pub with: List<RJoin>,
+    /// The items of both.
+    pub sources: List<Source>,
+    /// Where their rows end.
+    pub end: usize,
+}
+
+fn side_by_side(done: Sourced, with: Sourced, row: usize) -> Result<Both, ScopeFail>
+    ensures { Gives result (joining.side_by_side done row with) }
+{
+    let Sourced { joins, sources } = done;
+    let Sourced {
+        joins: with,
+        sources: more,
+    } = with;
+    let sources = together(sources, more)?;
+    let end = behind(row, sources.len())?;
+    Ok(Both {
+        joins,
+        with,
+        sources,
+        end,
+    })
+}
+
+/// Both, whose rows begin at `row`, where the right one could be read. 42712 where a name stands
+/// in both.
+pub(crate) fn both_of(
+    done: Sourced,
+    with: Result<Sourced, ScopeFail>,
+    row: usize,
+) -> Result<Both, ScopeFail>
+    ensures { Follows with (joining.side_by_side done row) result }
+{
+    match with {
+        Ok(with) => side_by_side(done, with, row),
+        Err(fail) => {
+            drop(done);
+            Err(fail)
+        }
+    }
+}
+
+fn joined_by(
+    both: Both,
+    kind: JoinKind,
+    condition: Option<Boxed<RExpr>>,
+) -> Result<Sourced, ScopeFail>
+    ensures { Gives result (Ok (joining.joined_by both kind condition)) }
+{
+    let Both {
+        joins,
+        with,
+        sources,
+        end: _,
+    } = both;
+    Ok(joined(joins, kind, with, sources, condition)?)
+}
+
+/// Both as one, where what stands behind ON could be read.
+pub(crate) fn joined_on(
+    both: Both,
+    kind: JoinKind,
+    condition: Result<Option<Boxed<RExpr>>, ScopeFail>,
+) -> Result<Sourced, ScopeFail>
+    ensures { Follows condition (λ on. Ok (joining.joined_by both kind on)) result }
+{
+    match condition {
+        Ok(condition) => joined_by(both, kind, condition),
+        Err(fail) => {
+            drop(both);
+            Err(fail)
+        }
+    }
+}
+
+// What is joined, with one more join, whose items the last ones of `sources` are.
+fn joined(
     done: List<RJoin>,
     kind: JoinKind,
     with: List<RJoin>,

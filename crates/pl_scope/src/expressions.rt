@@ -1,69 +1,38 @@
 //! Expressions, part by part.
 
-ghost use Rattle.std.specs.Prelude.{[], map, None, Ok};
+ghost use Rattle.std.specs.Prelude.{map};
 ghost use Rattle.std.specs.Option.{option_map};
 ghost use Rattle.pl_names.specs.Names.{around};
 ghost use Rattle.pl_scope.specs.Answers.{Meets};
 ghost use Rattle.pl_scope.specs.Expressions as spec;
+ghost use Rattle.pl_scope.specs.Following.{Continues};
+ghost use Rattle.pl_scope.specs.Gathered as gathered;
 ghost use Rattle.pl_scope.specs.Resolution as tree;
-ghost use Rattle.pl_resolved.specs.declared.expression.RExpr.TheVariants as resolved;
-ghost use Rattle.pl_typing.specs.Calls as calls;
 ghost use Rattle.pl_typing.specs.Calls.{no_arguments};
 ghost use Rattle.pl_typing.specs.Cases.{no_arms};
-ghost use Rattle.pl_typing.specs.Operators as operators;
-ghost use Rattle.pl_typing.specs.Resolved.{Gives};
-ghost use Rattle.pl_typing.specs.Subqueries as subqueries;
-ghost use Rattle.pl_typing.specs.Typing as typing;
 
 use crate::Made;
 use crate::casting::cast_known;
 use crate::collecting::{collect, count_rows};
 use crate::entering::without_aggregates;
+use crate::gathering::{Gathering, chain_of, gather, whole};
+use crate::operands::{
+    Two, asked_of, cased, exists_of, in_query_of, negated_of, scalar_of, signed_of, step_by,
+    truth_if, two_by,
+};
 use crate::queries::query;
-use pl_base::{Boxed, List, Name, Operator, State, Ty};
+use pl_base::{Boxed, List, Name, State, Ty};
 use pl_names::{Names, called, named, parameter, qualified};
 use pl_resolved::RExpr;
 use pl_tree::{Argument, Arm, Expr, Factor, Term};
 use pl_typing::{
-    Arguments, Arms, Listed, Run, ScopeFail, Typed, aggregate_named, asked, between, compared,
-    distinct, exists, in_list, in_query, like, literal, negated, null_if, operand_type, picked,
-    row, scalar, signed, tested, tree_of, truth, truth_of,
+    Arguments, Arms, Listed, Run, ScopeFail, Typed, aggregate_named, literal, operand_type, tested,
+    tree_of,
 };
 use std::alloc::Global;
 
-fn exists_of(alloc: Global, query: usize) -> Result<Typed, ScopeFail>
-    ensures { Gives result (Ok (subqueries.exists query)) }
-{
-    Ok(exists(alloc, query)?)
-}
-
-fn row_of(alloc: Global, fields: Arguments) -> Result<Typed, ScopeFail>
-    ensures { Gives result (Ok (calls.row_of fields)) }
-{
-    Ok(row(alloc, fields)?)
-}
-
-fn chain_of(alloc: Global, run: Run) -> Result<Typed, ScopeFail>
-    ensures { Gives result (Ok (operators.ended run)) }
-{
-    Ok(run.end(alloc)?)
-}
-
-fn and_of(alloc: Global, list: List<RExpr>) -> Result<Typed, ScopeFail>
-    ensures { Gives result (Ok (typing.truth_of (resolved.And list))) }
-{
-    Ok(truth_of(alloc, RExpr::And(list))?)
-}
-
-fn or_of(alloc: Global, list: List<RExpr>) -> Result<Typed, ScopeFail>
-    ensures { Gives result (Ok (typing.truth_of (resolved.Or list))) }
-{
-    Ok(truth_of(alloc, RExpr::Or(list))?)
-}
-
 /// An expression where these names are sought, with what it makes.
 #[cycle(resolving)]
-#[tactic(auto, using(crate::proofs::Equations::equations))]
 pub fn expr(alloc: Global, e: &Expr, names: &Names<'_>, made: &mut Made) -> Result<Typed, ScopeFail>
     ensures { Meets ((tree.part e.now).means (around names.now) made.old) result made.new }
 {
@@ -75,25 +44,27 @@ pub fn expr(alloc: Global, e: &Expr, names: &Names<'_>, made: &mut Made) -> Resu
         Expr::Call { name, arguments } => call(alloc, arguments.as_slice(), *name, names, made),
         Expr::CountRows => count_rows(alloc, names, made),
         Expr::Subquery(inner) => {
-            let inner = query(alloc, inner.get(), names, made)?;
-            scalar(alloc, inner.number, inner.heads.as_slice())
+            let inner = query(alloc, inner.get(), names, made);
+            scalar_of(alloc, inner)
         }
         Expr::Exists(inner) => {
-            let inner = query(alloc, inner.get(), names, made)?;
-            exists_of(alloc, inner.number)
+            let inner = query(alloc, inner.get(), names, made);
+            exists_of(alloc, inner)
         }
         Expr::Pick { pick, list } => {
-            let all = listed_on(alloc, list.as_slice(), Listed::new(alloc), names, made)?;
-            picked(alloc, *pick, all)
+            let none = Gathering::Pick {
+                pick: *pick,
+                all: Listed::new(alloc),
+            };
+            gathered_on(alloc, list.as_slice(), none, names, made)
         }
         Expr::NullIf(left, right) => {
-            let left = expr(alloc, left.get(), names, made)?;
-            let right = expr(alloc, right.get(), names, made)?;
-            null_if(alloc, left, right)
+            let left = boxed(alloc, left, names, made);
+            second(alloc, right, left, Two::NullIf, names, made)
         }
         Expr::Row(list) => {
-            let all = fields_on(alloc, list.as_slice(), names, made)?;
-            row_of(alloc, all)
+            let none = Gathering::Row(Arguments::new(alloc));
+            gathered_on(alloc, list.as_slice(), none, names, made)
         }
         Expr::Case {
             operand,
@@ -103,32 +74,29 @@ pub fn expr(alloc: Global, e: &Expr, names: &Names<'_>, made: &mut Made) -> Resu
             let operand = maybe(alloc, operand, names, made)?;
             let ty = operand_type(&operand);
             let done = arms_on(alloc, arms.as_slice(), &ty, names, made)?;
-            let otherwise = maybe(alloc, otherwise, names, made)?;
-            done.end(alloc, tree_of(operand), otherwise)
+            let otherwise = maybe(alloc, otherwise, names, made);
+            cased(alloc, tree_of(operand), done, otherwise)
         }
         Expr::Cast { operand, types } => {
-            let operand = expr(alloc, operand.get(), names, made)?;
+            let operand = boxed(alloc, operand, names, made);
             cast_known(alloc, operand, types.as_slice(), names)
         }
         Expr::Signed { signs, operand } => {
-            let operand = expr(alloc, operand.get(), names, made)?;
-            signed(alloc, signs.as_slice(), operand)
+            let operand = boxed(alloc, operand, names, made);
+            signed_of(alloc, signs.as_slice(), operand)
         }
         Expr::Product { first, factors } => {
-            let first = expr(alloc, first.get(), names, made)?;
+            let first = boxed(alloc, first, names, made)?;
             let run = Run::new(alloc, first);
-            let done = factors_on(alloc, factors.as_slice(), run, names, made)?;
-            chain_of(alloc, done)
+            factors_on(alloc, factors.as_slice(), run, names, made)
         }
         Expr::Sum { first, terms } => {
-            let first = expr(alloc, first.get(), names, made)?;
+            let first = boxed(alloc, first, names, made)?;
             let run = Run::new(alloc, first);
-            let done = terms_on(alloc, terms.as_slice(), run, names, made)?;
-            chain_of(alloc, done)
+            terms_on(alloc, terms.as_slice(), run, names, made)
         }
         Expr::Concat(list) => {
-            let done = concat_on(alloc, list.as_slice(), names, made)?;
-            ended_if(alloc, done)
+            gathered_on(alloc, list.as_slice(), Gathering::Concat(None), names, made)
         }
         Expr::Between {
             is_negated,
@@ -136,84 +104,100 @@ pub fn expr(alloc: Global, e: &Expr, names: &Names<'_>, made: &mut Made) -> Resu
             low,
             high,
         } => {
-            let operand = expr(alloc, operand.get(), names, made)?;
-            let low = expr(alloc, low.get(), names, made)?;
-            let high = expr(alloc, high.get(), names, made)?;
-            between(alloc, *is_negated, operand, low, high)
+            let operand = boxed(alloc, operand, names, made)?;
+            let low = boxed(alloc, low, names, made);
+            let by = Two::Between {
+                is_negated: *is_negated,
+                operand,
+            };
+            second(alloc, high, low, by, names, made)
         }
         Expr::InList {
             is_negated,
             operand,
             list,
         } => {
-            let operand = expr(alloc, operand.get(), names, made)?;
-            let all = Listed::new(alloc).with(operand)?;
-            let all = listed_on(alloc, list.as_slice(), all, names, made)?;
-            in_list(alloc, *is_negated, all)
+            let operand = boxed(alloc, operand, names, made);
+            let none = Gathering::InList {
+                is_negated: *is_negated,
+                all: Listed::new(alloc),
+            };
+            let first = gather(alloc, none, operand)?;
+            gathered_on(alloc, list.as_slice(), first, names, made)
         }
         Expr::InQuery {
             is_negated,
             operand,
             query: inner,
         } => {
-            let operand = expr(alloc, operand.get(), names, made)?;
-            let inner = query(alloc, inner.get(), names, made)?;
-            in_query(
-                alloc,
-                *is_negated,
-                operand,
-                inner.number,
-                inner.heads.as_slice(),
-            )
+            let operand = boxed(alloc, operand, names, made)?;
+            let inner = query(alloc, inner.get(), names, made);
+            in_query_of(alloc, *is_negated, operand, inner)
         }
         Expr::Like {
             is_negated,
             operand,
             pattern,
         } => {
-            let operand = expr(alloc, operand.get(), names, made)?;
-            let pattern = expr(alloc, pattern.get(), names, made)?;
-            like(alloc, *is_negated, operand, pattern)
+            let operand = boxed(alloc, operand, names, made);
+            let by = Two::Like {
+                is_negated: *is_negated,
+            };
+            second(alloc, pattern, operand, by, names, made)
         }
         Expr::Compare {
             comparison,
             left,
             right,
         } => {
-            let left = expr(alloc, left.get(), names, made)?;
-            let right = expr(alloc, right.get(), names, made)?;
-            compared(alloc, *comparison, left, right)
+            let left = boxed(alloc, left, names, made);
+            let by = Two::Compare(*comparison);
+            second(alloc, right, left, by, names, made)
         }
         Expr::Is {
             is_negated,
             operand,
             test,
         } => {
-            let operand = expr(alloc, operand.get(), names, made)?;
-            asked(alloc, *is_negated, operand, *test)
+            let operand = boxed(alloc, operand, names, made);
+            asked_of(alloc, *is_negated, operand, *test)
         }
         Expr::IsDistinct {
             is_negated,
             left,
             right,
         } => {
-            let left = expr(alloc, left.get(), names, made)?;
-            let right = expr(alloc, right.get(), names, made)?;
-            distinct(alloc, *is_negated, left, right)
+            let left = boxed(alloc, left, names, made);
+            let by = Two::IsDistinct {
+                is_negated: *is_negated,
+            };
+            second(alloc, right, left, by, names, made)
         }
         Expr::Not { count, operand } => {
-            let operand = expr(alloc, operand.get(), names, made)?;
-            negated(alloc, *count, operand)
+            let operand = boxed(alloc, operand, names, made);
+            negated_of(alloc, *count, operand)
         }
         Expr::And(list) => {
-            let list = conditions(alloc, list.as_slice(), names, made)?;
-            and_of(alloc, list)
+            let none = Gathering::And(List::new(alloc));
+            gathered_on(alloc, list.as_slice(), none, names, made)
         }
         Expr::Or(list) => {
-            let list = conditions(alloc, list.as_slice(), names, made)?;
-            or_of(alloc, list)
+            let none = Gathering::Or(List::new(alloc));
+            gathered_on(alloc, list.as_slice(), none, names, made)
         }
     }
+}
+
+#[cycle(resolving)]
+fn boxed(
+    alloc: Global,
+    e: &Boxed<Expr>,
+    names: &Names<'_>,
+    made: &mut Made,
+) -> Result<Typed, ScopeFail>
+    ensures { Meets ((tree.part e.now).means (around names.now) made.old) result made.new }
+{
+    expr(alloc, e.get(), names, made)
 }
 
 #[cycle(resolving)]
@@ -278,41 +262,48 @@ fn argument(
     }
 }
 
+// What two parts make, of which the first has been read.
 #[cycle(resolving)]
-fn listed_on(
+fn second(
     alloc: Global,
-    list: &[Expr],
-    first: Listed,
+    right: &Boxed<Expr>,
+    left: Result<Typed, ScopeFail>,
+    by: Two,
     names: &Names<'_>,
     made: &mut Made,
-) -> Result<Listed, ScopeFail>
-    ensures { Meets (spec.listed_on (map tree.part list.now) first (around names.now) made.old)
+) -> Result<Typed, ScopeFail>
+    ensures { Continues left (λ x. gathered.second (tree.part right.now) by x (around names.now))
+        made.old result made.new }
+{
+    match left {
+        Ok(left) => {
+            let right = boxed(alloc, right, names, made)?;
+            two_by(alloc, by, left, right)
+        }
+        Err(fail) => {
+            drop(by);
+            Err(fail)
+        }
+    }
+}
+
+#[cycle(resolving)]
+fn gathered_on(
+    alloc: Global,
+    list: &[Expr],
+    first: Gathering,
+    names: &Names<'_>,
+    made: &mut Made,
+) -> Result<Typed, ScopeFail>
+    ensures { Meets (gathered.gather (map tree.part list.now) first (around names.now) made.old)
         result made.new }
 {
     let mut done = first;
     for part in list {
-        let typed = expr(alloc, part, names, made)?;
-        done = done.with(typed)?;
+        let next = expr(alloc, part, names, made);
+        done = gather(alloc, done, next)?;
     }
-    Ok(done)
-}
-
-#[cycle(resolving)]
-fn fields_on(
-    alloc: Global,
-    list: &[Expr],
-    names: &Names<'_>,
-    made: &mut Made,
-) -> Result<Arguments, ScopeFail>
-    ensures { Meets (spec.fields_on (map tree.part list.now) no_arguments (around names.now)
-        made.old) result made.new }
-{
-    let mut done = Arguments::new(alloc);
-    for part in list {
-        let typed = expr(alloc, part, names, made)?;
-        done = done.with(typed)?;
-    }
-    Ok(done)
+    whole(alloc, done)
 }
 
 #[cycle(resolving)]
@@ -322,16 +313,16 @@ fn terms_on(
     first: Run,
     names: &Names<'_>,
     made: &mut Made,
-) -> Result<Run, ScopeFail>
-    ensures { Meets (spec.run_on (map tree.term_view terms.now) first (around names.now)
+) -> Result<Typed, ScopeFail>
+    ensures { Meets (gathered.chain_on (map tree.term_view terms.now) first (around names.now)
         made.old) result made.new }
 {
     let mut run = first;
     for term in terms {
-        let operand = expr(alloc, &term.operand, names, made)?;
-        run = run.step(alloc, Operator::Arithmetic(term.operator), operand)?;
+        let operand = expr(alloc, &term.operand, names, made);
+        run = step_by(alloc, run, term.operator, operand)?;
     }
-    Ok(run)
+    chain_of(alloc, run)
 }
 
 #[cycle(resolving)]
@@ -341,74 +332,20 @@ fn factors_on(
     first: Run,
     names: &Names<'_>,
     made: &mut Made,
-) -> Result<Run, ScopeFail>
-    ensures { Meets (spec.run_on (map tree.factor_view factors.now) first (around names.now)
+) -> Result<Typed, ScopeFail>
+    ensures { Meets (gathered.chain_on (map tree.factor_view factors.now) first (around names.now)
         made.old) result made.new }
 {
     let mut run = first;
     for factor in factors {
-        let operand = expr(alloc, &factor.operand, names, made)?;
-        run = run.step(alloc, Operator::Arithmetic(factor.operator), operand)?;
+        let operand = expr(alloc, &factor.operand, names, made);
+        run = step_by(alloc, run, factor.operator, operand)?;
     }
-    Ok(run)
-}
-
-fn joined_to(alloc: Global, done: Option<Run>, operand: Typed) -> Result<Run, ScopeFail>
-    ensures { Gives result (spec.joined_to done operand) }
-{
-    match done {
-        None => Ok(Run::new(alloc, operand)),
-        Some(run) => run.step(alloc, Operator::Concatenate, operand),
-    }
-}
-
-fn ended_if(alloc: Global, done: Option<Run>) -> Result<Typed, ScopeFail>
-    ensures { Gives result (spec.ended_if done) }
-{
-    match done {
-        None => Err(ScopeFail::State(State::SYNTAX_ERROR)),
-        Some(run) => Ok(run.end(alloc)?),
-    }
+    chain_of(alloc, run)
 }
 
 #[cycle(resolving)]
-fn concat_on(
-    alloc: Global,
-    list: &[Expr],
-    names: &Names<'_>,
-    made: &mut Made,
-) -> Result<Option<Run>, ScopeFail>
-    ensures { Meets (spec.concat_on (map tree.part list.now) None (around names.now) made.old)
-        result made.new }
-{
-    let mut done = None;
-    for part in list {
-        let operand = expr(alloc, part, names, made)?;
-        done = Some(joined_to(alloc, done, operand)?);
-    }
-    Ok(done)
-}
-
-#[cycle(resolving)]
-fn conditions(
-    alloc: Global,
-    list: &[Expr],
-    names: &Names<'_>,
-    made: &mut Made,
-) -> Result<List<RExpr>, ScopeFail>
-    ensures { Meets (spec.conditions (map tree.part list.now) [] (around names.now) made.old)
-        result made.new }
-{
-    let mut done = List::new(alloc);
-    for part in list {
-        let condition = expr(alloc, part, names, made)?;
-        done.push(truth(alloc, condition)?.into_inner())?;
-    }
-    Ok(done)
-}
-
-#[cycle(resolving)]
-fn maybe(
+pub(crate) fn maybe(
     alloc: Global,
     e: &Option<Boxed<Expr>>,
     names: &Names<'_>,
@@ -434,13 +371,8 @@ pub fn maybe_condition(
     ensures { Meets (spec.maybe_condition (option_map tree.part e.now) (around names.now)
         made.old) result made.new }
 {
-    match e {
-        None => Ok(None),
-        Some(e) => {
-            let condition = expr(alloc, e.get(), names, made)?;
-            Ok(Some(truth(alloc, condition)?))
-        }
-    }
+    let condition = maybe(alloc, e, names, made);
+    truth_if(alloc, condition)
 }
 
 #[cycle(resolving)]

@@ -1,7 +1,8 @@
 //! Output columns that keys mean, and ORDER BY: PostgreSQL manual, "SELECT".
 
-ghost use Rattle.std.specs.Prelude.{◌≡◌, IfOk};
+ghost use Rattle.std.specs.Prelude.{◌≡◌, IfOk, Ok};
 ghost use Rattle.std.specs.Option.{option_copied};
+ghost use Rattle.pl_scope.specs.Following.{Follows};
 ghost use Rattle.pl_scope.specs.Named.{with_named};
 ghost use Rattle.pl_scope.specs.Steps as spec;
 ghost use Rattle.pl_typing.specs.Resolved.{Gives};
@@ -12,7 +13,7 @@ use pl_grouping::{place_of, reads, same_tree};
 use pl_names::Names;
 use pl_resolved::{Head, RExpr, RKey, RQuery};
 use pl_tree::Nulls;
-use pl_typing::ScopeFail;
+use pl_typing::{ScopeFail, Typed};
 use std::alloc::{AllocError, Global};
 
 /// Order keys as far as they have been read.
@@ -177,7 +178,7 @@ impl Ordered {
 
     fn appended(
         self,
-        tree: RExpr,
+        tree: Boxed<RExpr>,
         is_descending: bool,
         nulls: Option<Nulls>,
     ) -> Result<Ordered, AllocError>
@@ -188,7 +189,7 @@ impl Ordered {
             mut keys,
         } = self;
         keys.push(key_of(values.len(), is_descending, nulls))?;
-        values.push(tree)?;
+        values.push(tree.into_inner())?;
         Ok(Ordered { values, keys })
     }
 
@@ -210,8 +211,40 @@ impl Ordered {
                 if is_distinct {
                     return Err(ScopeFail::State(State::INVALID_COLUMN_REFERENCE));
                 }
-                Ok(self.appended(tree.into_inner(), is_descending, nulls)?)
+                Ok(self.appended(tree, is_descending, nulls)?)
             }
+        }
+    }
+}
+
+/// With a key that is a value of the list.
+pub(crate) fn by_item(
+    done: Ordered,
+    item: usize,
+    is_descending: bool,
+    nulls: Option<Nulls>,
+) -> Result<Ordered, ScopeFail>
+    ensures { Gives result (Ok (spec.with_key (spec.key_of item is_descending nulls) done)) }
+{
+    Ok(done.with_item(item, is_descending, nulls)?)
+}
+
+/// With a key of this value, where it could be read.
+pub(crate) fn by_value(
+    done: Ordered,
+    value: Result<Typed, ScopeFail>,
+    is_descending: bool,
+    nulls: Option<Nulls>,
+    is_distinct: bool,
+) -> Result<Ordered, ScopeFail>
+    ensures { Follows value (λ x. spec.valued_key x.tree is_descending nulls is_distinct done)
+        result }
+{
+    match value {
+        Ok(value) => done.with_value(value.tree, is_descending, nulls, is_distinct),
+        Err(fail) => {
+            drop(done);
+            Err(fail)
         }
     }
 }

@@ -1,29 +1,33 @@
 //! Queries, clause by clause.
 
-ghost use Rattle.std.specs.Prelude.{◌≡◌, ◌+◌, [], length, map};
+ghost use Rattle.std.specs.Prelude.{◌≡◌, ◌+◌, [], length, map, Ok};
 ghost use Rattle.std.specs.Option.{option_map};
 ghost use Rattle.pl_names.specs.Names.{around};
+ghost use Rattle.pl_names.specs.Sources as sources;
 ghost use Rattle.pl_names.specs.Sources.{no_items};
 ghost use Rattle.pl_scope.specs.Answers.{Meets};
 ghost use Rattle.pl_scope.specs.Expressions as spec;
+ghost use Rattle.pl_scope.specs.Following.{Follows};
 ghost use Rattle.pl_scope.specs.Queries as queries;
 ghost use Rattle.pl_scope.specs.Resolution as tree;
 ghost use Rattle.pl_scope.specs.Steps as steps;
 ghost use Rattle.pl_typing.specs.Resolved.{Gives};
+ghost use Rattle.pl_typing.specs.Typing as typing;
 
 use crate::closing::{Arranged, Clauses, Selected, close};
-use crate::entering::{behind, beside, entered, inside, joined, without_aggregates};
-use crate::expressions::{call, expr, maybe_condition};
-use crate::ordering::{Ordered, item_key, output_of};
+use crate::entering::{behind, beside, both_of, entered, inside, joined_on, without_aggregates};
+use crate::expressions::{call, expr, maybe, maybe_condition};
+use crate::operands::limit_if;
+use crate::ordering::{Ordered, by_item, by_value, item_key, output_of};
 use crate::written::{as_written, group_written};
 use crate::{Inner, Made};
-use pl_base::{Boxed, List};
+use pl_base::{Boxed, List, Name};
 use pl_names::{
     Items, Names, Source, Sourced, columns_of, derived, every_column, table, together, valued,
 };
 use pl_resolved::{Head, RExpr};
 use pl_tree::{Expr, From, Item, Join, Key, Query};
-use pl_typing::{ScopeFail, head_of, limited};
+use pl_typing::{ScopeFail, Typed, head_of};
 use std::alloc::Global;
 
 /// A query, which is made behind those inside it.
@@ -177,13 +181,25 @@ fn froms_on(
     };
     for part in list {
         let at = behind(row, done.sources.len())?;
-        let more = from(alloc, part, at, names, made)?;
+        let more = from(alloc, part, at, names, made);
         done = put_beside(done, more)?;
     }
     Ok(done)
 }
 
-fn put_beside(done: Sourced, more: Sourced) -> Result<Sourced, ScopeFail>
+fn put_beside(done: Sourced, more: Result<Sourced, ScopeFail>) -> Result<Sourced, ScopeFail>
+    ensures { Follows more (steps.put_beside done) result }
+{
+    match more {
+        Ok(more) => put_both(done, more),
+        Err(fail) => {
+            drop(done);
+            Err(fail)
+        }
+    }
+}
+
+fn put_both(done: Sourced, more: Sourced) -> Result<Sourced, ScopeFail>
     ensures { Gives result (steps.put_beside done more) }
 {
     let Sourced { joins, sources } = done;
@@ -197,8 +213,61 @@ fn put_beside(done: Sourced, more: Sourced) -> Result<Sourced, ScopeFail>
     }
 }
 
+fn valued_at(
+    alloc: Global,
+    value: Typed,
+    name: Name,
+    alias: Option<Name>,
+    row: usize,
+) -> Result<Sourced, ScopeFail>
+    ensures { Gives result (Ok (sources.valued value name alias row)) }
+{
+    Ok(valued(alloc, value, name, alias, row)?)
+}
+
+// A call as an item, where it could be read.
+fn valued_of(
+    alloc: Global,
+    value: Result<Typed, ScopeFail>,
+    name: Name,
+    alias: Option<Name>,
+    row: usize,
+) -> Result<Sourced, ScopeFail>
+    ensures { Follows value (λ x. Ok (sources.valued x name alias row)) result }
+{
+    match value {
+        Ok(value) => valued_at(alloc, value, name, alias, row),
+        Err(fail) => Err(fail),
+    }
+}
+
+fn derived_at(
+    alloc: Global,
+    inner: Inner,
+    alias: Option<Name>,
+    row: usize,
+) -> Result<Sourced, ScopeFail>
+    ensures { Gives result (Ok (sources.derived inner.number inner.heads alias row)) }
+{
+    Ok(derived(alloc, inner.number, inner.heads, alias, row)?)
+}
+
+// A query as an item, where it could be read.
+fn derived_of(
+    alloc: Global,
+    inner: Result<Inner, ScopeFail>,
+    alias: Option<Name>,
+    row: usize,
+) -> Result<Sourced, ScopeFail>
+    ensures { Follows inner (λ q. Ok (sources.derived q.number q.heads alias row)) result }
+{
+    match inner {
+        Ok(inner) => derived_at(alloc, inner, alias, row),
+        Err(fail) => Err(fail),
+    }
+}
+
 #[cycle(resolving)]
-#[tactic(auto, using(crate::proofs::Equations::from_equations))]
 fn from(
     alloc: Global,
     f: &From,
@@ -215,15 +284,15 @@ fn from(
             arguments,
             alias,
         } => {
-            let value = call(alloc, arguments.as_slice(), *name, names, made)?;
-            Ok(valued(alloc, value, *name, *alias, row)?)
+            let value = call(alloc, arguments.as_slice(), *name, names, made);
+            valued_of(alloc, value, *name, *alias, row)
         }
         From::Subquery {
             query: inner,
             alias,
         } => {
-            let inner = query(alloc, inner.get(), names, made)?;
-            Ok(derived(alloc, inner.number, inner.heads, *alias, row)?)
+            let inner = query(alloc, inner.get(), names, made);
+            derived_of(alloc, inner, *alias, row)
         }
         From::Joined { first, joins } => {
             let done = from(alloc, first.get(), row, names, made)?;
@@ -264,16 +333,10 @@ fn join_on(
         made.old) result made.new }
 {
     let at = behind(row, done.sources.len())?;
-    let with = from(alloc, &join.with, at, names, made)?;
-    let Sourced { joins, sources } = done;
-    let Sourced {
-        joins: with,
-        sources: more,
-    } = with;
-    let sources = together(sources, more)?;
-    let end = behind(row, sources.len())?;
-    let on = join_condition(alloc, &join.condition, &sources, end, names, made)?;
-    Ok(joined(joins, join.kind, with, sources, on)?)
+    let with = from(alloc, &join.with, at, names, made);
+    let both = both_of(done, with, row)?;
+    let on = join_condition(alloc, &join.condition, &both.sources, both.end, names, made);
+    joined_on(both, join.kind, on)
 }
 
 // ON, which sees what is joined there.
@@ -322,8 +385,32 @@ pub fn items_on(
     Ok(done)
 }
 
+fn with_column(done: Items, value: Typed, label: &Option<Name>) -> Result<Items, ScopeFail>
+    ensures { Gives result (sources.with_item done value.tree (typing.head_of label.now value)) }
+{
+    let head = head_of(label, &value);
+    done.with(value.tree.into_inner(), head)
+}
+
+// The select list with one more column, where that could be read.
+fn with_value(
+    done: Items,
+    value: Result<Typed, ScopeFail>,
+    label: &Option<Name>,
+) -> Result<Items, ScopeFail>
+    ensures { Follows value (λ x. sources.with_item done x.tree (typing.head_of label.now x))
+        result }
+{
+    match value {
+        Ok(value) => with_column(done, value, label),
+        Err(fail) => {
+            drop(done);
+            Err(fail)
+        }
+    }
+}
+
 #[cycle(resolving)]
-#[tactic(auto, using(crate::proofs::Equations::item_equations))]
 fn item_on(
     alloc: Global,
     part: &Item,
@@ -339,9 +426,8 @@ fn item_on(
         Item::All => every_column(done, sources),
         Item::AllOf(name) => columns_of(done, *name, names),
         Item::Value { value, label } => {
-            let typed = expr(alloc, value, names, made)?;
-            let head = head_of(label, &typed);
-            done.with(typed.tree.into_inner(), head)
+            let value = expr(alloc, value, names, made);
+            with_value(done, value, label)
         }
     }
 }
@@ -364,6 +450,15 @@ fn groups_on(
         done.push(key.into_inner())?;
     }
     Ok(done)
+}
+
+fn tree_alone(value: Result<Typed, ScopeFail>) -> Result<Boxed<RExpr>, ScopeFail>
+    ensures { Follows value (λ x. Ok x.tree) result }
+{
+    match value {
+        Ok(value) => Ok(value.tree),
+        Err(fail) => Err(fail),
+    }
 }
 
 #[cycle(resolving)]
@@ -392,8 +487,8 @@ fn group_on(
             )
         }
         None => {
-            let typed = expr(alloc, part, names, made)?;
-            Ok(typed.tree)
+            let key = expr(alloc, part, names, made);
+            tree_alone(key)
         }
     }
 }
@@ -432,10 +527,10 @@ fn key_on(
         names.now) made.old) result made.new }
 {
     match output_of(as_written(&key.value), heads, done.values.as_slice())? {
-        Some(at) => Ok(done.with_item(at, key.is_descending, key.nulls)?),
+        Some(at) => by_item(done, at, key.is_descending, key.nulls),
         None => {
-            let typed = expr(alloc, &key.value, names, made)?;
-            done.with_value(typed.tree, key.is_descending, key.nulls, is_distinct)
+            let value = expr(alloc, &key.value, names, made);
+            by_value(done, value, key.is_descending, key.nulls, is_distinct)
         }
     }
 }
@@ -451,11 +546,6 @@ fn maybe_limit(
     ensures { Meets (queries.maybe_limit (option_map tree.part e.now) (around names.now)
         made.old) result made.new }
 {
-    match e {
-        None => Ok(None),
-        Some(e) => {
-            let count = expr(alloc, e.get(), names, made)?;
-            Ok(Some(limited(alloc, count)?))
-        }
-    }
+    let count = maybe(alloc, e, names, made);
+    limit_if(alloc, count)
 }

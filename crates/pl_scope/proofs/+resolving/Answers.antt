@@ -1,16 +1,23 @@
-use Rattle.std.proofs.Common.{◌≡◌, Some, length, map, rules, arith, refl}
+use Rattle.std.proofs.Common.{◌≡◌, ◌+◌, ◌∙◌, Some, drop, length, map, rules, arith, refl}
 use Rattle.std.proofs.lemmas.Grind.{common_steps}
+use Rattle.std.specs.Option.{option_map}
 use Rattle.pl_names.specs.Names.{around}
 use Rattle.pl_scope.proofs.Aggregates.{aggregate_called, from_arguments}
 use Rattle.pl_scope.proofs.Equations.{part_pick, part_null_if, part_case_view, part_signed, part_product_view, part_sum_view, part_between, part_in_list, part_in_query, part_like, part_compare, part_is, part_is_distinct, part_not, from_function, from_joined, part_literal, part_parameter, part_name, part_qualified, part_call, part_count_rows, part_subquery, part_exists, part_row, part_cast, part_concat, part_and, part_or, argument_value, argument_named, from_table, from_query, item_value, item_all, item_all_of}
+use Rattle.pl_scope.proofs.Following.{continues_err, continues_ok, follows_is, follows_stops}
+use Rattle.pl_scope.proofs.Gathered.{and_meets, chain_meets, concat_meets, condition_meets, in_list_goes, in_list_stops, limit_meets, or_meets, pick_meets, row_meets}
 use Rattle.pl_scope.proofs.InTurn.{ended, given, goes_on, next, step_goes, step_stops, stops}
+use Rattle.pl_scope.proofs.Joining.{join_goes, join_stops}
 use Rattle.pl_scope.proofs.Lifted.{lifted}
-use Rattle.pl_scope.specs.Answers.{Meets, got}
-use Rattle.pl_scope.specs.Expressions.{arguments_on, no_aggregates, listed_on, fields_on, run_on, concat_on, conditions, arms_on}
+use Rattle.pl_scope.specs.Answers.{Meets, got, settled}
+use Rattle.pl_scope.specs.Expressions.{arguments_on, no_aggregates, arms_on}
+use Rattle.pl_scope.specs.Gathered.{chain_on, gather, gathered_with}
 use Rattle.pl_scope.specs.Queries.{froms_on, joins_on, items_on, groups_on, keys_on}
+use Rattle.pl_scope.specs.Steps.{put_beside}
 use Rattle.pl_scope.specs.Resolution.{argument_part, part, from_part, item_part, term_view, factor_view, arm_view, key_view, join_view}
 use Rattle.pl_typing.specs.Aggregates.{aggregate_named}
 use Rattle.pl_typing.specs.Calls.{no_arguments}
+use Rattle.pl_typing.specs.Operators.{stepped}
 use Rattle.pl_scope.proofs.+resolving.Goals as goal
 
 pub expressions::expr-returns-in-Literal : goal.expressions::expr-returns-in-Literal
@@ -31,167 +38,23 @@ expressions::expr-returns-in-Call t c = rw (c.in-Call.is, part_call, ← c.as_sl
 pub expressions::expr-returns-in-CountRows : goal.expressions::expr-returns-in-CountRows
 expressions::expr-returns-in-CountRows t c = rw (c.in-CountRows.is, part_count_rows) (c.count_rows.ensures)
 
-pub expressions::expr-returns-in_err-inner-in-Subquery : goal.expressions::expr-returns-in_err-inner-in-Subquery
-expressions::expr-returns-in_err-inner-in-Subquery t c = rw (c.in-Subquery.is, part_subquery, ← c.get.ensures) (stops _ _ _ _ _ _ c.from_residual.ensures.1 c.in_err-inner-in-Subquery.ensures)
-
-pub expressions::expr-returns-in_ok-inner-in-Subquery : goal.expressions::expr-returns-in_ok-inner-in-Subquery
-expressions::expr-returns-in_ok-inner-in-Subquery t c = rw (c.in-Subquery.is, part_subquery, ← c.get.ensures) (goes_on _ _ _ _ _ _ c.in_ok-inner-in-Subquery.ensures (lifted _ _ _ (rw (c.as_slice-in-Subquery.ensures) at c.scalar.ensures)))
-
-pub expressions::expr-returns-in_err-inner-in-Exists : goal.expressions::expr-returns-in_err-inner-in-Exists
-expressions::expr-returns-in_err-inner-in-Exists t c = rw (c.in-Exists.is, part_exists, ← c.get-in-Exists.ensures) (stops _ _ _ _ _ _ c.from_residual-in_err-inner-in-Exists.ensures.1 c.in_err-inner-in-Exists.ensures)
-
-pub expressions::expr-returns-in_ok-inner-in-Exists : goal.expressions::expr-returns-in_ok-inner-in-Exists
-expressions::expr-returns-in_ok-inner-in-Exists t c = rw (c.in-Exists.is, part_exists, ← c.get-in-Exists.ensures) (goes_on _ _ _ _ _ _ c.in_ok-inner-in-Exists.ensures (given _ _ _ c.exists_of.ensures))
-
-pub expressions::expr-returns-in_err-all-in-Pick : goal.expressions::expr-returns-in_err-all-in-Pick
-expressions::expr-returns-in_err-all-in-Pick t c = rw (c.in-Pick.is, part_pick, ← c.as_slice-in-Pick.ensures, ← c.new.ensures) (stops _ _ _ _ _ _ c.from_residual-in_err-all-in-Pick.ensures.1 c.in_err-all-in-Pick.ensures)
-
-pub expressions::expr-returns-in_ok-all-in-Pick : goal.expressions::expr-returns-in_ok-all-in-Pick
-expressions::expr-returns-in_ok-all-in-Pick t c = rw (c.in-Pick.is, part_pick, ← c.as_slice-in-Pick.ensures, ← c.new.ensures) (goes_on _ _ _ _ _ _ c.in_ok-all-in-Pick.ensures (lifted _ _ _ c.picked.ensures))
-
-pub expressions::expr-returns-in_err-left-in-NullIf : goal.expressions::expr-returns-in_err-left-in-NullIf
-expressions::expr-returns-in_err-left-in-NullIf t c = rw (c.in-NullIf.is, part_null_if, ← c.get-in-NullIf.ensures) (stops _ _ _ _ _ _ c.from_residual-in_err-left-in-NullIf.ensures.1 c.in_err-left-in-NullIf.ensures)
-
-pub expressions::expr-returns-in_err-right-in-NullIf : goal.expressions::expr-returns-in_err-right-in-NullIf
-expressions::expr-returns-in_err-right-in-NullIf t c = rw (c.in-NullIf.is, part_null_if, ← c.get-in-NullIf.ensures, ← c.get-in-NullIf-2.ensures) (goes_on _ _ _ _ _ _ c.in_ok-left-in-NullIf.ensures (stops _ _ _ _ _ _ c.from_residual-in_err-right-in-NullIf.ensures.1 c.in_err-right-in-NullIf.ensures))
-
-pub expressions::expr-returns-in_ok-right-in-NullIf : goal.expressions::expr-returns-in_ok-right-in-NullIf
-expressions::expr-returns-in_ok-right-in-NullIf t c = rw (c.in-NullIf.is, part_null_if, ← c.get-in-NullIf.ensures, ← c.get-in-NullIf-2.ensures) (goes_on _ _ _ _ _ _ c.in_ok-left-in-NullIf.ensures (goes_on _ _ _ _ _ _ c.in_ok-right-in-NullIf.ensures (lifted _ _ _ c.null_if.ensures)))
-
-pub expressions::expr-returns-in_err-all-in-Row : goal.expressions::expr-returns-in_err-all-in-Row
-expressions::expr-returns-in_err-all-in-Row t c = rw (c.in-Row.is, part_row, ← c.as_slice-in-Row.ensures) (stops _ _ _ _ _ _ c.from_residual-in_err-all-in-Row.ensures.1 c.in_err-all-in-Row.ensures)
-
-pub expressions::expr-returns-in_ok-all-in-Row : goal.expressions::expr-returns-in_ok-all-in-Row
-expressions::expr-returns-in_ok-all-in-Row t c = rw (c.in-Row.is, part_row, ← c.as_slice-in-Row.ensures) (goes_on _ _ _ _ _ _ c.in_ok-all-in-Row.ensures (given _ _ _ c.row_of.ensures))
-
 pub expressions::expr-returns-in_err-operand-in-Case : goal.expressions::expr-returns-in_err-operand-in-Case
-expressions::expr-returns-in_err-operand-in-Case t c = rw (c.in-Case.is, part_case_view) (stops _ _ _ _ _ _ c.from_residual-in_err-operand-in-Case.ensures.1 c.in_err-operand-in-Case.ensures)
+expressions::expr-returns-in_err-operand-in-Case t c = rw (c.in-Case.is, part_case_view) (stops _ _ _ _ _ _ c.from_residual.ensures.1 c.in_err-operand-in-Case.ensures)
 
 pub expressions::expr-returns-in_err-done-in-Case : goal.expressions::expr-returns-in_err-done-in-Case
 expressions::expr-returns-in_err-done-in-Case t c = rw (c.in-Case.is, part_case_view, ← c.as_slice-in-Case.ensures) (goes_on _ _ _ _ _ _ c.in_ok-operand-in-Case.ensures (rw (← c.operand_type-ty.ensures) (stops _ _ _ _ _ _ c.from_residual-in_err-done-in-Case.ensures.1 c.in_err-done-in-Case.ensures)))
 
-pub expressions::expr-returns-in_err-otherwise-in-Case : goal.expressions::expr-returns-in_err-otherwise-in-Case
-expressions::expr-returns-in_err-otherwise-in-Case t c = rw (c.in-Case.is, part_case_view, ← c.as_slice-in-Case.ensures) (goes_on _ _ _ _ _ _ c.in_ok-operand-in-Case.ensures (rw (← c.operand_type-ty.ensures) (goes_on _ _ _ _ _ _ c.in_ok-done-in-Case.ensures (stops _ _ _ _ _ _ c.from_residual-in_err-otherwise-in-Case.ensures.1 c.in_err-otherwise-in-Case.ensures))))
-
-pub expressions::expr-returns-in_ok-otherwise-in-Case : goal.expressions::expr-returns-in_ok-otherwise-in-Case
-expressions::expr-returns-in_ok-otherwise-in-Case t c = rw (c.in-Case.is, part_case_view, ← c.as_slice-in-Case.ensures) (goes_on _ _ _ _ _ _ c.in_ok-operand-in-Case.ensures (rw (← c.operand_type-ty.ensures) (goes_on _ _ _ _ _ _ c.in_ok-done-in-Case.ensures (goes_on _ _ _ _ _ _ c.in_ok-otherwise-in-Case.ensures (lifted _ _ _ (rw (c.tree_of.ensures) at c.end.ensures))))))
-
-pub expressions::expr-returns-in_err-operand-in-Cast : goal.expressions::expr-returns-in_err-operand-in-Cast
-expressions::expr-returns-in_err-operand-in-Cast t c = rw (c.in-Cast.is, part_cast, ← c.get-in-Cast.ensures) (stops _ _ _ _ _ _ c.from_residual-in_err-operand-in-Cast.ensures.1 c.in_err-operand-in-Cast.ensures)
-
-pub expressions::expr-returns-in_ok-operand-in-Cast : goal.expressions::expr-returns-in_ok-operand-in-Cast
-expressions::expr-returns-in_ok-operand-in-Cast t c = rw (c.in-Cast.is, part_cast, ← c.get-in-Cast.ensures) (goes_on _ _ _ _ _ _ c.in_ok-operand-in-Cast.ensures (lifted _ _ _ (rw (c.as_slice-in-Cast.ensures) at c.cast_known.ensures)))
-
-pub expressions::expr-returns-in_err-operand-in-Signed : goal.expressions::expr-returns-in_err-operand-in-Signed
-expressions::expr-returns-in_err-operand-in-Signed t c = rw (c.in-Signed.is, part_signed, ← c.get-in-Signed.ensures) (stops _ _ _ _ _ _ c.from_residual-in_err-operand-in-Signed.ensures.1 c.in_err-operand-in-Signed.ensures)
-
-pub expressions::expr-returns-in_ok-operand-in-Signed : goal.expressions::expr-returns-in_ok-operand-in-Signed
-expressions::expr-returns-in_ok-operand-in-Signed t c = rw (c.in-Signed.is, part_signed, ← c.get-in-Signed.ensures) (goes_on _ _ _ _ _ _ c.in_ok-operand-in-Signed.ensures (lifted _ _ _ (rw (c.as_slice-in-Signed.ensures) at c.signed.ensures)))
-
 pub expressions::expr-returns-in_err-first-in-Product : goal.expressions::expr-returns-in_err-first-in-Product
-expressions::expr-returns-in_err-first-in-Product t c = rw (c.in-Product.is, part_product_view, ← c.get-in-Product.ensures) (stops _ _ _ _ _ _ c.from_residual-in_err-first-in-Product.ensures.1 c.in_err-first-in-Product.ensures)
-
-pub expressions::expr-returns-in_err-done-in-Product : goal.expressions::expr-returns-in_err-done-in-Product
-expressions::expr-returns-in_err-done-in-Product t c = rw (c.in-Product.is, part_product_view, ← c.get-in-Product.ensures, ← c.as_slice-in-Product.ensures) (goes_on _ _ _ _ _ _ c.in_ok-first-in-Product.ensures (rw (← c.new-run.ensures) (stops _ _ _ _ _ _ c.from_residual-in_err-done-in-Product.ensures.1 c.in_err-done-in-Product.ensures)))
-
-pub expressions::expr-returns-in_ok-done-in-Product : goal.expressions::expr-returns-in_ok-done-in-Product
-expressions::expr-returns-in_ok-done-in-Product t c = rw (c.in-Product.is, part_product_view, ← c.get-in-Product.ensures, ← c.as_slice-in-Product.ensures) (goes_on _ _ _ _ _ _ c.in_ok-first-in-Product.ensures (rw (← c.new-run.ensures) (goes_on _ _ _ _ _ _ c.in_ok-done-in-Product.ensures (given _ _ _ c.chain_of.ensures))))
+expressions::expr-returns-in_err-first-in-Product t c = rw (c.in-Product.is, part_product_view) (stops _ _ _ _ _ _ c.from_residual-in_err-first-in-Product.ensures.1 c.in_err-first-in-Product.ensures)
 
 pub expressions::expr-returns-in_err-first-in-Sum : goal.expressions::expr-returns-in_err-first-in-Sum
-expressions::expr-returns-in_err-first-in-Sum t c = rw (c.in-Sum.is, part_sum_view, ← c.get-in-Sum.ensures) (stops _ _ _ _ _ _ c.from_residual-in_err-first-in-Sum.ensures.1 c.in_err-first-in-Sum.ensures)
-
-pub expressions::expr-returns-in_err-done-in-Sum : goal.expressions::expr-returns-in_err-done-in-Sum
-expressions::expr-returns-in_err-done-in-Sum t c = rw (c.in-Sum.is, part_sum_view, ← c.get-in-Sum.ensures, ← c.as_slice-in-Sum.ensures) (goes_on _ _ _ _ _ _ c.in_ok-first-in-Sum.ensures (rw (← c.new-run-in-Sum.ensures) (stops _ _ _ _ _ _ c.from_residual-in_err-done-in-Sum.ensures.1 c.in_err-done-in-Sum.ensures)))
-
-pub expressions::expr-returns-in_ok-done-in-Sum : goal.expressions::expr-returns-in_ok-done-in-Sum
-expressions::expr-returns-in_ok-done-in-Sum t c = rw (c.in-Sum.is, part_sum_view, ← c.get-in-Sum.ensures, ← c.as_slice-in-Sum.ensures) (goes_on _ _ _ _ _ _ c.in_ok-first-in-Sum.ensures (rw (← c.new-run-in-Sum.ensures) (goes_on _ _ _ _ _ _ c.in_ok-done-in-Sum.ensures (given _ _ _ c.chain_of-in-Sum.ensures))))
-
-pub expressions::expr-returns-in_err-done-in-Concat : goal.expressions::expr-returns-in_err-done-in-Concat
-expressions::expr-returns-in_err-done-in-Concat t c = rw (c.in-Concat.is, part_concat, ← c.as_slice-in-Concat.ensures) (stops _ _ _ _ _ _ c.from_residual-in_err-done-in-Concat.ensures.1 c.in_err-done-in-Concat.ensures)
-
-pub expressions::expr-returns-in_ok-done-in-Concat : goal.expressions::expr-returns-in_ok-done-in-Concat
-expressions::expr-returns-in_ok-done-in-Concat t c = rw (c.in-Concat.is, part_concat, ← c.as_slice-in-Concat.ensures) (goes_on _ _ _ _ _ _ c.in_ok-done-in-Concat.ensures (lifted _ _ _ c.ended_if.ensures))
+expressions::expr-returns-in_err-first-in-Sum t c = rw (c.in-Sum.is, part_sum_view) (stops _ _ _ _ _ _ c.from_residual-in_err-first-in-Sum.ensures.1 c.in_err-first-in-Sum.ensures)
 
 pub expressions::expr-returns-in_err-operand-in-Between : goal.expressions::expr-returns-in_err-operand-in-Between
-expressions::expr-returns-in_err-operand-in-Between t c = rw (c.in-Between.is, part_between, ← c.get-in-Between.ensures) (stops _ _ _ _ _ _ c.from_residual-in_err-operand-in-Between.ensures.1 c.in_err-operand-in-Between.ensures)
-
-pub expressions::expr-returns-in_err-low-in-Between : goal.expressions::expr-returns-in_err-low-in-Between
-expressions::expr-returns-in_err-low-in-Between t c = rw (c.in-Between.is, part_between, ← c.get-in-Between.ensures, ← c.get-in-Between-2.ensures) (goes_on _ _ _ _ _ _ c.in_ok-operand-in-Between.ensures (stops _ _ _ _ _ _ c.from_residual-in_err-low-in-Between.ensures.1 c.in_err-low-in-Between.ensures))
-
-pub expressions::expr-returns-in_err-high-in-Between : goal.expressions::expr-returns-in_err-high-in-Between
-expressions::expr-returns-in_err-high-in-Between t c = rw (c.in-Between.is, part_between, ← c.get-in-Between.ensures, ← c.get-in-Between-2.ensures, ← c.get-in-Between-3.ensures) (goes_on _ _ _ _ _ _ c.in_ok-operand-in-Between.ensures (goes_on _ _ _ _ _ _ c.in_ok-low-in-Between.ensures (stops _ _ _ _ _ _ c.from_residual-in_err-high-in-Between.ensures.1 c.in_err-high-in-Between.ensures)))
-
-pub expressions::expr-returns-in_ok-high-in-Between : goal.expressions::expr-returns-in_ok-high-in-Between
-expressions::expr-returns-in_ok-high-in-Between t c = rw (c.in-Between.is, part_between, ← c.get-in-Between.ensures, ← c.get-in-Between-2.ensures, ← c.get-in-Between-3.ensures) (goes_on _ _ _ _ _ _ c.in_ok-operand-in-Between.ensures (goes_on _ _ _ _ _ _ c.in_ok-low-in-Between.ensures (goes_on _ _ _ _ _ _ c.in_ok-high-in-Between.ensures (lifted _ _ _ c.between.ensures))))
-
-pub expressions::expr-returns-in_err-operand-in-InList : goal.expressions::expr-returns-in_err-operand-in-InList
-expressions::expr-returns-in_err-operand-in-InList t c = rw (c.in-InList.is, part_in_list, ← c.get-in-InList.ensures) (stops _ _ _ _ _ _ c.from_residual-in_err-operand-in-InList.ensures.1 c.in_err-operand-in-InList.ensures)
-
-pub expressions::expr-returns-in_err-all-in-InList-2 : goal.expressions::expr-returns-in_err-all-in-InList-2
-expressions::expr-returns-in_err-all-in-InList-2 t c = rw (c.in-InList.is, part_in_list, ← c.get-in-InList.ensures, ← c.as_slice-in-InList.ensures) (goes_on _ _ _ _ _ _ c.in_ok-operand-in-InList.ensures (let all = rw (c.new-in-InList.ensures) at c.in_ok-all-in-InList.ensures in rw (← all) (stops _ _ _ _ _ _ c.from_residual-in_err-all-in-InList-2.ensures.1 c.in_err-all-in-InList-2.ensures)))
-
-pub expressions::expr-returns-in_ok-all-in-InList-2 : goal.expressions::expr-returns-in_ok-all-in-InList-2
-expressions::expr-returns-in_ok-all-in-InList-2 t c = rw (c.in-InList.is, part_in_list, ← c.get-in-InList.ensures, ← c.as_slice-in-InList.ensures) (goes_on _ _ _ _ _ _ c.in_ok-operand-in-InList.ensures (let all = rw (c.new-in-InList.ensures) at c.in_ok-all-in-InList.ensures in rw (← all) (goes_on _ _ _ _ _ _ c.in_ok-all-in-InList-2.ensures (lifted _ _ _ c.in_list.ensures))))
+expressions::expr-returns-in_err-operand-in-Between t c = rw (c.in-Between.is, part_between) (stops _ _ _ _ _ _ c.from_residual-in_err-operand-in-Between.ensures.1 c.in_err-operand-in-Between.ensures)
 
 pub expressions::expr-returns-in_err-operand-in-InQuery : goal.expressions::expr-returns-in_err-operand-in-InQuery
-expressions::expr-returns-in_err-operand-in-InQuery t c = rw (c.in-InQuery.is, part_in_query, ← c.get-in-InQuery.ensures) (stops _ _ _ _ _ _ c.from_residual-in_err-operand-in-InQuery.ensures.1 c.in_err-operand-in-InQuery.ensures)
-
-pub expressions::expr-returns-in_err-inner-in-InQuery : goal.expressions::expr-returns-in_err-inner-in-InQuery
-expressions::expr-returns-in_err-inner-in-InQuery t c = rw (c.in-InQuery.is, part_in_query, ← c.get-in-InQuery.ensures, ← c.get-in-InQuery-2.ensures) (goes_on _ _ _ _ _ _ c.in_ok-operand-in-InQuery.ensures (stops _ _ _ _ _ _ c.from_residual-in_err-inner-in-InQuery.ensures.1 c.in_err-inner-in-InQuery.ensures))
-
-pub expressions::expr-returns-in_ok-inner-in-InQuery : goal.expressions::expr-returns-in_ok-inner-in-InQuery
-expressions::expr-returns-in_ok-inner-in-InQuery t c = rw (c.in-InQuery.is, part_in_query, ← c.get-in-InQuery.ensures, ← c.get-in-InQuery-2.ensures) (goes_on _ _ _ _ _ _ c.in_ok-operand-in-InQuery.ensures (goes_on _ _ _ _ _ _ c.in_ok-inner-in-InQuery.ensures (lifted _ _ _ (rw (c.as_slice-in-InQuery.ensures) at c.in_query.ensures))))
-
-pub expressions::expr-returns-in_err-operand-in-Like : goal.expressions::expr-returns-in_err-operand-in-Like
-expressions::expr-returns-in_err-operand-in-Like t c = rw (c.in-Like.is, part_like, ← c.get-in-Like.ensures) (stops _ _ _ _ _ _ c.from_residual-in_err-operand-in-Like.ensures.1 c.in_err-operand-in-Like.ensures)
-
-pub expressions::expr-returns-in_err-pattern-in-Like : goal.expressions::expr-returns-in_err-pattern-in-Like
-expressions::expr-returns-in_err-pattern-in-Like t c = rw (c.in-Like.is, part_like, ← c.get-in-Like.ensures, ← c.get-in-Like-2.ensures) (goes_on _ _ _ _ _ _ c.in_ok-operand-in-Like.ensures (stops _ _ _ _ _ _ c.from_residual-in_err-pattern-in-Like.ensures.1 c.in_err-pattern-in-Like.ensures))
-
-pub expressions::expr-returns-in_ok-pattern-in-Like : goal.expressions::expr-returns-in_ok-pattern-in-Like
-expressions::expr-returns-in_ok-pattern-in-Like t c = rw (c.in-Like.is, part_like, ← c.get-in-Like.ensures, ← c.get-in-Like-2.ensures) (goes_on _ _ _ _ _ _ c.in_ok-operand-in-Like.ensures (goes_on _ _ _ _ _ _ c.in_ok-pattern-in-Like.ensures (lifted _ _ _ c.like.ensures)))
-
-pub expressions::expr-returns-in_err-left-in-Compare : goal.expressions::expr-returns-in_err-left-in-Compare
-expressions::expr-returns-in_err-left-in-Compare t c = rw (c.in-Compare.is, part_compare, ← c.get-in-Compare.ensures) (stops _ _ _ _ _ _ c.from_residual-in_err-left-in-Compare.ensures.1 c.in_err-left-in-Compare.ensures)
-
-pub expressions::expr-returns-in_err-right-in-Compare : goal.expressions::expr-returns-in_err-right-in-Compare
-expressions::expr-returns-in_err-right-in-Compare t c = rw (c.in-Compare.is, part_compare, ← c.get-in-Compare.ensures, ← c.get-in-Compare-2.ensures) (goes_on _ _ _ _ _ _ c.in_ok-left-in-Compare.ensures (stops _ _ _ _ _ _ c.from_residual-in_err-right-in-Compare.ensures.1 c.in_err-right-in-Compare.ensures))
-
-pub expressions::expr-returns-in_ok-right-in-Compare : goal.expressions::expr-returns-in_ok-right-in-Compare
-expressions::expr-returns-in_ok-right-in-Compare t c = rw (c.in-Compare.is, part_compare, ← c.get-in-Compare.ensures, ← c.get-in-Compare-2.ensures) (goes_on _ _ _ _ _ _ c.in_ok-left-in-Compare.ensures (goes_on _ _ _ _ _ _ c.in_ok-right-in-Compare.ensures (lifted _ _ _ c.compared.ensures)))
-
-pub expressions::expr-returns-in_err-operand-in-Is : goal.expressions::expr-returns-in_err-operand-in-Is
-expressions::expr-returns-in_err-operand-in-Is t c = rw (c.in-Is.is, part_is, ← c.get-in-Is.ensures) (stops _ _ _ _ _ _ c.from_residual-in_err-operand-in-Is.ensures.1 c.in_err-operand-in-Is.ensures)
-
-pub expressions::expr-returns-in_ok-operand-in-Is : goal.expressions::expr-returns-in_ok-operand-in-Is
-expressions::expr-returns-in_ok-operand-in-Is t c = rw (c.in-Is.is, part_is, ← c.get-in-Is.ensures) (goes_on _ _ _ _ _ _ c.in_ok-operand-in-Is.ensures (lifted _ _ _ c.asked.ensures))
-
-pub expressions::expr-returns-in_err-left-in-IsDistinct : goal.expressions::expr-returns-in_err-left-in-IsDistinct
-expressions::expr-returns-in_err-left-in-IsDistinct t c = rw (c.in-IsDistinct.is, part_is_distinct, ← c.get-in-IsDistinct.ensures) (stops _ _ _ _ _ _ c.from_residual-in_err-left-in-IsDistinct.ensures.1 c.in_err-left-in-IsDistinct.ensures)
-
-pub expressions::expr-returns-in_err-right-in-IsDistinct : goal.expressions::expr-returns-in_err-right-in-IsDistinct
-expressions::expr-returns-in_err-right-in-IsDistinct t c = rw (c.in-IsDistinct.is, part_is_distinct, ← c.get-in-IsDistinct.ensures, ← c.get-in-IsDistinct-2.ensures) (goes_on _ _ _ _ _ _ c.in_ok-left-in-IsDistinct.ensures (stops _ _ _ _ _ _ c.from_residual-in_err-right-in-IsDistinct.ensures.1 c.in_err-right-in-IsDistinct.ensures))
-
-pub expressions::expr-returns-in_ok-right-in-IsDistinct : goal.expressions::expr-returns-in_ok-right-in-IsDistinct
-expressions::expr-returns-in_ok-right-in-IsDistinct t c = rw (c.in-IsDistinct.is, part_is_distinct, ← c.get-in-IsDistinct.ensures, ← c.get-in-IsDistinct-2.ensures) (goes_on _ _ _ _ _ _ c.in_ok-left-in-IsDistinct.ensures (goes_on _ _ _ _ _ _ c.in_ok-right-in-IsDistinct.ensures (lifted _ _ _ c.distinct.ensures)))
-
-pub expressions::expr-returns-in_err-operand-in-Not : goal.expressions::expr-returns-in_err-operand-in-Not
-expressions::expr-returns-in_err-operand-in-Not t c = rw (c.in-Not.is, part_not, ← c.get-in-Not.ensures) (stops _ _ _ _ _ _ c.from_residual-in_err-operand-in-Not.ensures.1 c.in_err-operand-in-Not.ensures)
-
-pub expressions::expr-returns-in_ok-operand-in-Not : goal.expressions::expr-returns-in_ok-operand-in-Not
-expressions::expr-returns-in_ok-operand-in-Not t c = rw (c.in-Not.is, part_not, ← c.get-in-Not.ensures) (goes_on _ _ _ _ _ _ c.in_ok-operand-in-Not.ensures (lifted _ _ _ c.negated.ensures))
-
-pub expressions::expr-returns-in_err-list-in-And : goal.expressions::expr-returns-in_err-list-in-And
-expressions::expr-returns-in_err-list-in-And t c = rw (c.in-And.is, part_and, ← c.as_slice-in-And.ensures) (stops _ _ _ _ _ _ c.from_residual-in_err-list-in-And.ensures.1 c.in_err-list-in-And.ensures)
-
-pub expressions::expr-returns-in_ok-list-in-And : goal.expressions::expr-returns-in_ok-list-in-And
-expressions::expr-returns-in_ok-list-in-And t c = rw (c.in-And.is, part_and, ← c.as_slice-in-And.ensures) (goes_on _ _ _ _ _ _ c.in_ok-list-in-And.ensures (given _ _ _ c.and_of.ensures))
-
-pub expressions::expr-returns-in_err-list-in-Or : goal.expressions::expr-returns-in_err-list-in-Or
-expressions::expr-returns-in_err-list-in-Or t c = rw (c.in-Or.is, part_or, ← c.as_slice-in-Or.ensures) (stops _ _ _ _ _ _ c.from_residual-in_err-list-in-Or.ensures.1 c.in_err-list-in-Or.ensures)
-
-pub expressions::expr-returns-in_ok-list-in-Or : goal.expressions::expr-returns-in_ok-list-in-Or
-expressions::expr-returns-in_ok-list-in-Or t c = rw (c.in-Or.is, part_or, ← c.as_slice-in-Or.ensures) (goes_on _ _ _ _ _ _ c.in_ok-list-in-Or.ensures (given _ _ _ c.or_of.ensures))
+expressions::expr-returns-in_err-operand-in-InQuery t c = rw (c.in-InQuery.is, part_in_query) (stops _ _ _ _ _ _ c.from_residual-in_err-operand-in-InQuery.ensures.1 c.in_err-operand-in-InQuery.ensures)
 
 pub expressions::arguments_on-returns-in_err-typed : goal.expressions::arguments_on-returns-in_err-typed
 expressions::arguments_on-returns-in_err-typed t c = rw (next (λ l. arguments_on (map argument_part l) c.loop-part.done (around c.args.names.now) c.loop-part.made) c.args.list.now c.loop-part.part-index c.part-item.result _ c.loop-part-test.true c.part-item.is c.loop-part.invariant) (stops _ _ _ _ _ _ c.from_residual.ensures.1 c.in_err-typed.ensures)
@@ -201,66 +64,6 @@ expressions::arguments_on-loop-part-preserved t c = rw (next (λ l. arguments_on
 
 pub expressions::arguments_on-returns : goal.expressions::arguments_on-returns
 expressions::arguments_on-returns t c = ended (λ l. arguments_on (map argument_part l) c.loop-part.done (around c.args.names.now) c.loop-part.made) c.args.list.now c.loop-part.part-index _ c.loop-part-test.false c.loop-part.invariant
-
-pub expressions::listed_on-returns-in_err-typed : goal.expressions::listed_on-returns-in_err-typed
-expressions::listed_on-returns-in_err-typed t c = rw (next (λ l. listed_on (map part l) c.loop-part.done (around c.args.names.now) c.loop-part.made) c.args.list.now c.loop-part.part-index c.part-item.result _ c.loop-part-test.true c.part-item.is c.loop-part.invariant) (stops _ _ _ _ _ _ c.from_residual.ensures.1 c.in_err-typed.ensures)
-
-pub expressions::listed_on-loop-part-preserved : goal.expressions::listed_on-loop-part-preserved
-expressions::listed_on-loop-part-preserved t c = rw (next (λ l. listed_on (map part l) c.loop-part.done (around c.args.names.now) c.loop-part.made) c.args.list.now c.loop-part.part-index c.part-item.result _ c.loop-part-test.true c.part-item.is c.loop-part.invariant, c.in_ok-typed.ensures, c.in_ok-done.ensures) refl
-
-pub expressions::listed_on-returns : goal.expressions::listed_on-returns
-expressions::listed_on-returns t c = ended (λ l. listed_on (map part l) c.loop-part.done (around c.args.names.now) c.loop-part.made) c.args.list.now c.loop-part.part-index _ c.loop-part-test.false c.loop-part.invariant
-
-pub expressions::fields_on-returns-in_err-typed : goal.expressions::fields_on-returns-in_err-typed
-expressions::fields_on-returns-in_err-typed t c = rw (next (λ l. fields_on (map part l) c.loop-part.done (around c.args.names.now) c.loop-part.made) c.args.list.now c.loop-part.part-index c.part-item.result _ c.loop-part-test.true c.part-item.is c.loop-part.invariant) (stops _ _ _ _ _ _ c.from_residual.ensures.1 c.in_err-typed.ensures)
-
-pub expressions::fields_on-loop-part-preserved : goal.expressions::fields_on-loop-part-preserved
-expressions::fields_on-loop-part-preserved t c = rw (next (λ l. fields_on (map part l) c.loop-part.done (around c.args.names.now) c.loop-part.made) c.args.list.now c.loop-part.part-index c.part-item.result _ c.loop-part-test.true c.part-item.is c.loop-part.invariant, c.in_ok-typed.ensures, c.in_ok-done.ensures) refl
-
-pub expressions::fields_on-returns : goal.expressions::fields_on-returns
-expressions::fields_on-returns t c = ended (λ l. fields_on (map part l) c.loop-part.done (around c.args.names.now) c.loop-part.made) c.args.list.now c.loop-part.part-index _ c.loop-part-test.false c.loop-part.invariant
-
-pub expressions::factors_on-returns-in_err-operand : goal.expressions::factors_on-returns-in_err-operand
-expressions::factors_on-returns-in_err-operand t c = rw (next (λ l. run_on (map factor_view l) c.loop-factor.run (around c.args.names.now) c.loop-factor.made) c.args.factors.now c.loop-factor.factor-index c.factor-item.result _ c.loop-factor-test.true c.factor-item.is c.loop-factor.invariant) (stops _ _ _ _ _ _ c.from_residual.ensures.1 c.in_err-operand.ensures)
-
-pub expressions::factors_on-returns-in_err-run : goal.expressions::factors_on-returns-in_err-run
-expressions::factors_on-returns-in_err-run t c = rw (next (λ l. run_on (map factor_view l) c.loop-factor.run (around c.args.names.now) c.loop-factor.made) c.args.factors.now c.loop-factor.factor-index c.factor-item.result _ c.loop-factor-test.true c.factor-item.is c.loop-factor.invariant) (goes_on _ _ _ _ _ _ c.in_ok-operand.ensures (step_stops _ _ _ _ _ _ c.from_residual-in_err-run.ensures.1 c.in_err-run.ensures))
-
-pub expressions::factors_on-loop-factor-preserved : goal.expressions::factors_on-loop-factor-preserved
-expressions::factors_on-loop-factor-preserved t c = rw (next (λ l. run_on (map factor_view l) c.loop-factor.run (around c.args.names.now) c.loop-factor.made) c.args.factors.now c.loop-factor.factor-index c.factor-item.result _ c.loop-factor-test.true c.factor-item.is c.loop-factor.invariant, c.in_ok-operand.ensures, c.in_ok-run.ensures) refl
-
-pub expressions::factors_on-returns : goal.expressions::factors_on-returns
-expressions::factors_on-returns t c = ended (λ l. run_on (map factor_view l) c.loop-factor.run (around c.args.names.now) c.loop-factor.made) c.args.factors.now c.loop-factor.factor-index _ c.loop-factor-test.false c.loop-factor.invariant
-
-pub expressions::terms_on-returns-in_err-operand : goal.expressions::terms_on-returns-in_err-operand
-expressions::terms_on-returns-in_err-operand t c = rw (next (λ l. run_on (map term_view l) c.loop-term.run (around c.args.names.now) c.loop-term.made) c.args.terms.now c.loop-term.term-index c.term-item.result _ c.loop-term-test.true c.term-item.is c.loop-term.invariant) (stops _ _ _ _ _ _ c.from_residual.ensures.1 c.in_err-operand.ensures)
-
-pub expressions::terms_on-returns-in_err-run : goal.expressions::terms_on-returns-in_err-run
-expressions::terms_on-returns-in_err-run t c = rw (next (λ l. run_on (map term_view l) c.loop-term.run (around c.args.names.now) c.loop-term.made) c.args.terms.now c.loop-term.term-index c.term-item.result _ c.loop-term-test.true c.term-item.is c.loop-term.invariant) (goes_on _ _ _ _ _ _ c.in_ok-operand.ensures (step_stops _ _ _ _ _ _ c.from_residual-in_err-run.ensures.1 c.in_err-run.ensures))
-
-pub expressions::terms_on-loop-term-preserved : goal.expressions::terms_on-loop-term-preserved
-expressions::terms_on-loop-term-preserved t c = rw (next (λ l. run_on (map term_view l) c.loop-term.run (around c.args.names.now) c.loop-term.made) c.args.terms.now c.loop-term.term-index c.term-item.result _ c.loop-term-test.true c.term-item.is c.loop-term.invariant, c.in_ok-operand.ensures, c.in_ok-run.ensures) refl
-
-pub expressions::terms_on-returns : goal.expressions::terms_on-returns
-expressions::terms_on-returns t c = ended (λ l. run_on (map term_view l) c.loop-term.run (around c.args.names.now) c.loop-term.made) c.args.terms.now c.loop-term.term-index _ c.loop-term-test.false c.loop-term.invariant
-
-pub expressions::concat_on-returns-in_err-operand : goal.expressions::concat_on-returns-in_err-operand
-expressions::concat_on-returns-in_err-operand t c = rw (next (λ l. concat_on (map part l) c.loop-part.done (around c.args.names.now) c.loop-part.made) c.args.list.now c.loop-part.part-index c.part-item.result _ c.loop-part-test.true c.part-item.is c.loop-part.invariant) (stops _ _ _ _ _ _ c.from_residual.ensures.1 c.in_err-operand.ensures)
-
-pub expressions::concat_on-returns-in_err-joined_to : goal.expressions::concat_on-returns-in_err-joined_to
-expressions::concat_on-returns-in_err-joined_to t c = rw (next (λ l. concat_on (map part l) c.loop-part.done (around c.args.names.now) c.loop-part.made) c.args.list.now c.loop-part.part-index c.part-item.result _ c.loop-part-test.true c.part-item.is c.loop-part.invariant) (goes_on _ _ _ _ _ _ c.in_ok-operand.ensures (step_stops _ _ _ _ _ _ c.from_residual-in_err-joined_to.ensures.1 c.in_err-joined_to.ensures))
-
-pub expressions::concat_on-loop-part-preserved : goal.expressions::concat_on-loop-part-preserved
-expressions::concat_on-loop-part-preserved t c = rw (next (λ l. concat_on (map part l) c.loop-part.done (around c.args.names.now) c.loop-part.made) c.args.list.now c.loop-part.part-index c.part-item.result _ c.loop-part-test.true c.part-item.is c.loop-part.invariant, c.in_ok-operand.ensures, c.in_ok-joined_to.ensures) refl
-
-pub expressions::concat_on-returns : goal.expressions::concat_on-returns
-expressions::concat_on-returns t c = ended (λ l. concat_on (map part l) c.loop-part.done (around c.args.names.now) c.loop-part.made) c.args.list.now c.loop-part.part-index _ c.loop-part-test.false c.loop-part.invariant
-
-pub expressions::conditions-returns-in_err-condition : goal.expressions::conditions-returns-in_err-condition
-expressions::conditions-returns-in_err-condition t c = rw (next (λ l. conditions (map part l) c.loop-part.done (around c.args.names.now) c.loop-part.made) c.args.list.now c.loop-part.part-index c.part-item.result _ c.loop-part-test.true c.part-item.is c.loop-part.invariant) (stops _ _ _ _ _ _ c.from_residual.ensures.1 c.in_err-condition.ensures)
-
-pub expressions::conditions-returns-in_err-truth : goal.expressions::conditions-returns-in_err-truth
-expressions::conditions-returns-in_err-truth t c = rw (next (λ l. conditions (map part l) c.loop-part.done (around c.args.names.now) c.loop-part.made) c.args.list.now c.loop-part.part-index c.part-item.result _ c.loop-part-test.true c.part-item.is c.loop-part.invariant) (goes_on _ _ _ _ _ _ c.in_ok-condition.ensures (step_stops _ _ _ _ _ _ c.from_residual-in_err-truth.ensures.1 c.in_err-truth.ensures))
 
 pub expressions::arms_on-returns-in_err-when : goal.expressions::arms_on-returns-in_err-when
 expressions::arms_on-returns-in_err-when t c = rw (next (λ l. arms_on c.args.operand.now (map arm_view l) c.loop-arm.done (around c.args.names.now) c.loop-arm.made) c.args.arms.now c.loop-arm.arm-index c.arm-item.result _ c.loop-arm-test.true c.arm-item.is c.loop-arm.invariant) (stops _ _ _ _ _ _ c.from_residual.ensures.1 c.in_err-when.ensures)
@@ -276,18 +79,6 @@ expressions::arms_on-loop-arm-preserved t c = rw (next (λ l. arms_on c.args.ope
 
 pub expressions::arms_on-returns : goal.expressions::arms_on-returns
 expressions::arms_on-returns t c = ended (λ l. arms_on c.args.operand.now (map arm_view l) c.loop-arm.done (around c.args.names.now) c.loop-arm.made) c.args.arms.now c.loop-arm.arm-index _ c.loop-arm-test.false c.loop-arm.invariant
-
-pub queries::froms_on-returns-in_err-more : goal.queries::froms_on-returns-in_err-more
-queries::froms_on-returns-in_err-more t c = let row = rw (c.len.ensures) at c.in_ok-at.ensures.0 in rw (next (λ l. froms_on (map from_part l) c.args.row c.loop-part.done (around c.args.names.now) c.loop-part.made) c.args.list.now c.loop-part.part-index c.part-item.result _ c.loop-part-test.true c.part-item.is c.loop-part.invariant, ← row) (stops _ _ _ _ _ _ c.from_residual-in_err-more.ensures.1 c.in_err-more.ensures)
-
-pub queries::froms_on-returns-in_err-done : goal.queries::froms_on-returns-in_err-done
-queries::froms_on-returns-in_err-done t c = let row = rw (c.len.ensures) at c.in_ok-at.ensures.0 in rw (next (λ l. froms_on (map from_part l) c.args.row c.loop-part.done (around c.args.names.now) c.loop-part.made) c.args.list.now c.loop-part.part-index c.part-item.result _ c.loop-part-test.true c.part-item.is c.loop-part.invariant, ← row) (goes_on _ _ _ _ _ _ c.in_ok-more.ensures (step_stops _ _ _ _ _ _ c.from_residual-in_err-done.ensures.1 c.in_err-done.ensures))
-
-pub queries::froms_on-returns : goal.queries::froms_on-returns
-queries::froms_on-returns t c = ended (λ l. froms_on (map from_part l) c.args.row c.loop-part.done (around c.args.names.now) c.loop-part.made) c.args.list.now c.loop-part.part-index _ c.loop-part-test.false c.loop-part.invariant
-
-pub queries::froms_on-loop-part-preserved : goal.queries::froms_on-loop-part-preserved
-queries::froms_on-loop-part-preserved t c = let row = rw (c.len.ensures) at c.in_ok-at.ensures.0 in rw (next (λ l. froms_on (map from_part l) c.args.row c.loop-part.done (around c.args.names.now) c.loop-part.made) c.args.list.now c.loop-part.part-index c.part-item.result _ c.loop-part-test.true c.part-item.is c.loop-part.invariant, ← row, c.in_ok-more.ensures, c.in_ok-done.ensures) refl
 
 pub queries::groups_on-returns-in_err-key : goal.queries::groups_on-returns-in_err-key
 queries::groups_on-returns-in_err-key t c = rw (next (λ l. groups_on (map part l) c.args.sources.now c.args.items.now c.loop-part.done (around c.args.names.now) c.loop-part.made) c.args.list.now c.loop-part.part-index c.part-item.result _ c.loop-part-test.true c.part-item.is c.loop-part.invariant) (stops _ _ _ _ _ _ c.from_residual.ensures.1 c.in_err-key.ensures)
@@ -325,24 +116,6 @@ expressions::argument-returns-in_err-expr-in-FatalErrors t c = rw (c.in-FatalErr
 pub expressions::argument-returns-in-Value : goal.expressions::argument-returns-in-Value
 expressions::argument-returns-in-Value t c = rw (c.in-Value.is, argument_value) c.expr.ensures
 
-pub expressions::maybe_condition-returns-in_err-condition-in-Some : goal.expressions::maybe_condition-returns-in_err-condition-in-Some
-expressions::maybe_condition-returns-in_err-condition-in-Some t c = rw (c.in-Some.is, ← c.get.ensures) (stops _ _ _ _ _ _ c.from_residual.ensures.1 c.in_err-condition-in-Some.ensures)
-
-pub expressions::maybe_condition-returns-in_err-truth-in-Some : goal.expressions::maybe_condition-returns-in_err-truth-in-Some
-expressions::maybe_condition-returns-in_err-truth-in-Some t c = rw (c.in-Some.is, ← c.get.ensures) (goes_on _ _ _ _ _ _ c.in_ok-condition-in-Some.ensures (step_stops _ _ _ _ _ _ c.from_residual-in_err-truth-in-Some.ensures.1 c.in_err-truth-in-Some.ensures))
-
-pub expressions::maybe_condition-returns-in_ok-truth-in-Some : goal.expressions::maybe_condition-returns-in_ok-truth-in-Some
-expressions::maybe_condition-returns-in_ok-truth-in-Some t c = rw (c.in-Some.is, ← c.get.ensures, c.in_ok-condition-in-Some.ensures, c.in_ok-truth-in-Some.ensures) refl
-
-pub queries::maybe_limit-returns-in_err-count-in-Some : goal.queries::maybe_limit-returns-in_err-count-in-Some
-queries::maybe_limit-returns-in_err-count-in-Some t c = rw (c.in-Some.is, ← c.get.ensures) (stops _ _ _ _ _ _ c.from_residual.ensures.1 c.in_err-count-in-Some.ensures)
-
-pub queries::maybe_limit-returns-in_err-limited-in-Some : goal.queries::maybe_limit-returns-in_err-limited-in-Some
-queries::maybe_limit-returns-in_err-limited-in-Some t c = rw (c.in-Some.is, ← c.get.ensures) (goes_on _ _ _ _ _ _ c.in_ok-count-in-Some.ensures (step_stops _ _ _ _ _ _ c.from_residual-in_err-limited-in-Some.ensures.1 c.in_err-limited-in-Some.ensures))
-
-pub queries::maybe_limit-returns-in_ok-limited-in-Some : goal.queries::maybe_limit-returns-in_ok-limited-in-Some
-queries::maybe_limit-returns-in_ok-limited-in-Some t c = rw (c.in-Some.is, ← c.get.ensures, c.in_ok-count-in-Some.ensures, c.in_ok-limited-in-Some.ensures) refl
-
 pub expressions::maybe-returns-in_err-expr-in-Some : goal.expressions::maybe-returns-in_err-expr-in-Some
 expressions::maybe-returns-in_err-expr-in-Some t c = rw (c.in-Some.is, ← c.get.ensures) (stops _ _ _ _ _ _ c.from_residual.ensures.1 c.in_err-expr-in-Some.ensures)
 
@@ -352,56 +125,23 @@ expressions::maybe-returns-in_ok-expr-in-Some t c = rw (c.in-Some.is, ← c.get.
 pub queries::from-returns-in-Table : goal.queries::from-returns-in-Table
 queries::from-returns-in-Table t c = rw (c.in-Table.is, from_table) (lifted _ _ _ c.table.ensures)
 
-pub queries::from-returns-in_err-value-in-Function : goal.queries::from-returns-in_err-value-in-Function
-queries::from-returns-in_err-value-in-Function t c = rw (c.in-Function.is, from_function, ← c.as_slice.ensures) (stops _ _ _ _ _ _ c.from_residual.ensures.1 c.in_err-value-in-Function.ensures)
-
-pub queries::from-returns-in_ok-valued-in-Function : goal.queries::from-returns-in_ok-valued-in-Function
-queries::from-returns-in_ok-valued-in-Function t c = rw (c.in-Function.is, from_function, ← c.as_slice.ensures, c.in_ok-value-in-Function.ensures, c.in_ok-valued-in-Function.ensures) refl
-
-pub queries::from-returns-in_err-inner-in-Subquery : goal.queries::from-returns-in_err-inner-in-Subquery
-queries::from-returns-in_err-inner-in-Subquery t c = rw (c.in-Subquery.is, from_query, ← c.get.ensures) (stops _ _ _ _ _ _ c.from_residual-in_err-inner-in-Subquery.ensures.1 c.in_err-inner-in-Subquery.ensures)
-
-pub queries::from-returns-in_ok-derived-in-Subquery : goal.queries::from-returns-in_ok-derived-in-Subquery
-queries::from-returns-in_ok-derived-in-Subquery t c = rw (c.in-Subquery.is, from_query, ← c.get.ensures, c.in_ok-inner-in-Subquery.ensures, c.in_ok-derived-in-Subquery.ensures) refl
-
 pub queries::from-returns-in_err-done-in-Joined : goal.queries::from-returns-in_err-done-in-Joined
-queries::from-returns-in_err-done-in-Joined t c = rw (c.in-Joined.is, from_joined, ← c.get-in-Joined.ensures) (stops _ _ _ _ _ _ c.from_residual-in_err-done-in-Joined.ensures.1 c.in_err-done-in-Joined.ensures)
+queries::from-returns-in_err-done-in-Joined t c = rw (c.in-Joined.is, from_joined, ← c.get-in-Joined.ensures) (stops _ _ _ _ _ _ c.from_residual.ensures.1 c.in_err-done-in-Joined.ensures)
 
 pub queries::from-returns-in_ok-done-in-Joined : goal.queries::from-returns-in_ok-done-in-Joined
 queries::from-returns-in_ok-done-in-Joined t c = rw (c.in-Joined.is, from_joined, ← c.get-in-Joined.ensures, ← c.as_slice-in-Joined.ensures) (goes_on _ _ _ _ _ _ c.in_ok-done-in-Joined.ensures c.joins_on.ensures)
 
-pub queries::join_on-returns-in_err-with : goal.queries::join_on-returns-in_err-with
-queries::join_on-returns-in_err-with t c = let row = rw (c.len.ensures) at c.in_ok-at.ensures.0 in rw (← row) (stops _ _ _ _ _ _ c.from_residual-in_err-with.ensures.1 c.in_err-with.ensures)
-
-pub queries::join_on-returns-in_err-sources : goal.queries::join_on-returns-in_err-sources
-queries::join_on-returns-in_err-sources t c = let row = rw (c.len.ensures) at c.in_ok-at.ensures.0 in rw (← row) (goes_on _ _ _ _ _ _ c.in_ok-with.ensures (step_stops _ _ _ _ _ _ c.from_residual-in_err-sources.ensures.1 c.in_err-sources.ensures))
-
-pub queries::join_on-returns-in_err-on : goal.queries::join_on-returns-in_err-on
-queries::join_on-returns-in_err-on t c = let row = rw (c.len.ensures) at c.in_ok-at.ensures.0 in rw (← row) (goes_on _ _ _ _ _ _ c.in_ok-with.ensures (step_goes _ _ _ _ _ _ c.in_ok-sources.ensures (let past = rw (c.len-2.ensures) at c.in_ok-end.ensures.0 in rw (← past) (stops _ _ _ _ _ _ c.from_residual-in_err-on.ensures.1 c.in_err-on.ensures))))
-
 pub queries::group_on-returns-in_err-at : goal.queries::group_on-returns-in_err-at
 queries::group_on-returns-in_err-at t c = rw (← c.as_written.ensures, ← c.group_written-written.ensures, ← c.as_slice.ensures, ← c.as_slice-2.ensures) (step_stops _ _ _ _ _ _ c.from_residual.ensures.1 c.in_err-at.ensures)
 
-pub queries::group_on-returns-in_err-typed-in-None : goal.queries::group_on-returns-in_err-typed-in-None
-queries::group_on-returns-in_err-typed-in-None t c = rw (← c.as_written.ensures, ← c.group_written-written.ensures, ← c.as_slice.ensures, ← c.as_slice-2.ensures) (step_goes _ _ _ _ _ _ (rw (c.in-None.is) at c.in_ok-at.ensures) (stops _ _ _ _ _ _ c.from_residual-in_err-typed-in-None.ensures.1 c.in_err-typed-in-None.ensures))
-
 pub queries::key_on-returns-in_err-at : goal.queries::key_on-returns-in_err-at
 queries::key_on-returns-in_err-at t c = rw (← c.as_written.ensures, ← c.as_slice.ensures) (step_stops _ _ _ _ _ _ c.from_residual.ensures.1 c.in_err-at.ensures)
-
-pub queries::key_on-returns-in_err-typed-in-None : goal.queries::key_on-returns-in_err-typed-in-None
-queries::key_on-returns-in_err-typed-in-None t c = rw (← c.as_written.ensures, ← c.as_slice.ensures) (step_goes _ _ _ _ _ _ (rw (c.in-None.is) at c.in_ok-at.ensures) (stops _ _ _ _ _ _ c.from_residual-in_err-typed-in-None.ensures.1 c.in_err-typed-in-None.ensures))
 
 pub queries::item_on-returns-in-All : goal.queries::item_on-returns-in-All
 queries::item_on-returns-in-All t c = rw (c.in-All.is, item_all) (lifted _ _ _ c.every_column.ensures)
 
 pub queries::item_on-returns-in-AllOf : goal.queries::item_on-returns-in-AllOf
 queries::item_on-returns-in-AllOf t c = rw (c.in-AllOf.is, item_all_of) (lifted _ _ _ c.columns_of.ensures)
-
-pub queries::item_on-returns-in_err-typed-in-Value : goal.queries::item_on-returns-in_err-typed-in-Value
-queries::item_on-returns-in_err-typed-in-Value t c = rw (c.in-Value.is, item_value) (stops _ _ _ _ _ _ c.from_residual.ensures.1 c.in_err-typed-in-Value.ensures)
-
-pub queries::item_on-returns-in_ok-typed-in-Value : goal.queries::item_on-returns-in_ok-typed-in-Value
-queries::item_on-returns-in_ok-typed-in-Value t c = rw (c.in-Value.is, item_value) (goes_on _ _ _ _ _ _ c.in_ok-typed-in-Value.ensures (lifted _ _ _ (rw (c.head_of-head.ensures, c.into_inner.ensures) at c.with.ensures)))
 
 pub expressions::call-returns-in_ok-all-in-Some : goal.expressions::call-returns-in_ok-all-in-Some
 expressions::call-returns-in_ok-all-in-Some t c =
@@ -420,3 +160,147 @@ expressions::call-returns-in_ok-all-in-Some t c =
     let meets : Meets (from_arguments kind c.args.name c.len-since.result a all more) c.collect.result c.collect.new.made
     = first_of (search rules, grind (arith, common_steps)) in
     aggregate_called c.args.name parts a made more kind all c.len-since.result c.collect.result c.collect.new.made named since arguments meets
+
+pub expressions::expr-returns-in-Pick : goal.expressions::expr-returns-in-Pick
+expressions::expr-returns-in-Pick t c = rw (c.in-Pick.is, part_pick, ← c.as_slice-in-Pick.ensures) (pick_meets _ (map part c.as_slice-in-Pick.result.now) c.new.result (around c.args.names.now) c.args.made.now c.gathered_on.result c.gathered_on.new.made c.new.ensures c.gathered_on.ensures)
+
+pub expressions::expr-returns-in-NullIf : goal.expressions::expr-returns-in-NullIf
+expressions::expr-returns-in-NullIf t c = rw (c.in-NullIf.is, part_null_if) (c.second.ensures _ c.boxed-left.ensures)
+
+pub expressions::expr-returns-in-Row : goal.expressions::expr-returns-in-Row
+expressions::expr-returns-in-Row t c = rw (c.in-Row.is, part_row, ← c.as_slice-in-Row.ensures) (row_meets (map part c.as_slice-in-Row.result.now) c.new-in-Row.result (around c.args.names.now) c.args.made.now c.gathered_on-in-Row.result c.gathered_on-in-Row.new.made c.new-in-Row.ensures c.gathered_on-in-Row.ensures)
+
+pub expressions::expr-returns-in_ok-first-in-Product : goal.expressions::expr-returns-in_ok-first-in-Product
+expressions::expr-returns-in_ok-first-in-Product t c = rw (c.in-Product.is, part_product_view, ← c.as_slice-in-Product.ensures) (chain_meets _ (map factor_view c.as_slice-in-Product.result.now) (around c.args.names.now) _ _ c.new-run.result c.factors_on.result c.factors_on.new.made c.in_ok-first-in-Product.ensures c.new-run.ensures c.factors_on.ensures)
+
+pub expressions::expr-returns-in_ok-first-in-Sum : goal.expressions::expr-returns-in_ok-first-in-Sum
+expressions::expr-returns-in_ok-first-in-Sum t c = rw (c.in-Sum.is, part_sum_view, ← c.as_slice-in-Sum.ensures) (chain_meets _ (map term_view c.as_slice-in-Sum.result.now) (around c.args.names.now) _ _ c.new-run-in-Sum.result c.terms_on.result c.terms_on.new.made c.in_ok-first-in-Sum.ensures c.new-run-in-Sum.ensures c.terms_on.ensures)
+
+pub expressions::expr-returns-in-Concat : goal.expressions::expr-returns-in-Concat
+expressions::expr-returns-in-Concat t c = rw (c.in-Concat.is, part_concat, ← c.as_slice-in-Concat.ensures) (concat_meets (map part c.as_slice-in-Concat.result.now) (around c.args.names.now) c.args.made.now c.gathered_on-in-Concat.result c.gathered_on-in-Concat.new.made c.gathered_on-in-Concat.ensures)
+
+pub expressions::expr-returns-in_ok-operand-in-Between : goal.expressions::expr-returns-in_ok-operand-in-Between
+expressions::expr-returns-in_ok-operand-in-Between t c = rw (c.in-Between.is, part_between) (goes_on _ _ _ _ _ _ c.in_ok-operand-in-Between.ensures (c.second-in-Between.ensures _ c.boxed-low.ensures))
+
+pub expressions::expr-returns-in-Compare : goal.expressions::expr-returns-in-Compare
+expressions::expr-returns-in-Compare t c = rw (c.in-Compare.is, part_compare) (c.second-in-Compare.ensures _ c.boxed-left-in-Compare.ensures)
+
+pub expressions::expr-returns-in-IsDistinct : goal.expressions::expr-returns-in-IsDistinct
+expressions::expr-returns-in-IsDistinct t c = rw (c.in-IsDistinct.is, part_is_distinct) (c.second-in-IsDistinct.ensures _ c.boxed-left-in-IsDistinct.ensures)
+
+pub expressions::expr-returns-in-And : goal.expressions::expr-returns-in-And
+expressions::expr-returns-in-And t c = rw (c.in-And.is, part_and, ← c.as_slice-in-And.ensures) (and_meets (map part c.as_slice-in-And.result.now) c.new-in-And.result (around c.args.names.now) c.args.made.now c.gathered_on-in-And.result c.gathered_on-in-And.new.made c.new-in-And.ensures c.gathered_on-in-And.ensures)
+
+pub expressions::expr-returns-in-Or : goal.expressions::expr-returns-in-Or
+expressions::expr-returns-in-Or t c = rw (c.in-Or.is, part_or, ← c.as_slice-in-Or.ensures) (or_meets (map part c.as_slice-in-Or.result.now) c.new-in-Or.result (around c.args.names.now) c.args.made.now c.gathered_on-in-Or.result c.gathered_on-in-Or.new.made c.new-in-Or.ensures c.gathered_on-in-Or.ensures)
+
+pub expressions::second-returns-in_err-right-in-Ok : goal.expressions::second-returns-in_err-right-in-Ok
+expressions::second-returns-in_err-right-in-Ok t c = continues_ok _ _ _ _ _ _ c.in-Ok.is (stops _ _ _ _ _ _ c.from_residual.ensures.1 c.in_err-right-in-Ok.ensures)
+
+pub expressions::second-returns-in_ok-right-in-Ok : goal.expressions::second-returns-in_ok-right-in-Ok
+expressions::second-returns-in_ok-right-in-Ok t c = continues_ok _ _ _ _ _ _ c.in-Ok.is (goes_on _ _ _ _ _ _ c.in_ok-right-in-Ok.ensures (lifted _ _ _ c.two_by.ensures))
+
+pub expressions::second-returns-in-Err : goal.expressions::second-returns-in-Err
+expressions::second-returns-in-Err t c = continues_err _ _ _ _ _ c.in-Err.is
+
+pub expressions::gathered_on-returns-in_err-done : goal.expressions::gathered_on-returns-in_err-done
+expressions::gathered_on-returns-in_err-done t c = rw (next (λ l. gather (map part l) c.loop-part.done (around c.args.names.now) c.loop-part.made) c.args.list.now c.loop-part.part-index c.part-item.result _ c.loop-part-test.true c.part-item.is c.loop-part.invariant) (follows_stops ((part c.part-item.result).means (around c.args.names.now) c.loop-part.made) (λ y made. settled (gathered_with c.loop-part.done y) made) (λ done made. gather (map part (drop (c.loop-part.part-index + 1) c.args.list.now)) done (around c.args.names.now) made) _ _ c.expr-next.new.made c.expr-next.new.made c.from_residual.ensures.1 (c.in_err-done.ensures _ _ c.expr-next.ensures))
+
+pub expressions::gathered_on-loop-part-preserved : goal.expressions::gathered_on-loop-part-preserved
+expressions::gathered_on-loop-part-preserved t c = next (λ l. gather (map part l) c.loop-part.done (around c.args.names.now) c.loop-part.made) c.args.list.now c.loop-part.part-index c.part-item.result _ c.loop-part-test.true c.part-item.is c.loop-part.invariant ∙ follows_is ((part c.part-item.result).means (around c.args.names.now) c.loop-part.made) (λ y made. settled (gathered_with c.loop-part.done y) made) (λ done made. gather (map part (drop (c.loop-part.part-index + 1) c.args.list.now)) done (around c.args.names.now) made) _ _ (c.in_ok-done.ensures _ _ c.expr-next.ensures)
+
+pub expressions::gathered_on-returns : goal.expressions::gathered_on-returns
+expressions::gathered_on-returns t c = rw (ended (λ l. gather (map part l) c.loop-part.done (around c.args.names.now) c.loop-part.made) c.args.list.now c.loop-part.part-index _ c.loop-part-test.false c.loop-part.invariant) (lifted _ _ _ c.whole.ensures)
+
+pub expressions::factors_on-returns-in_err-run : goal.expressions::factors_on-returns-in_err-run
+expressions::factors_on-returns-in_err-run t c = rw (next (λ l. chain_on (map factor_view l) c.loop-factor.run (around c.args.names.now) c.loop-factor.made) c.args.factors.now c.loop-factor.factor-index c.factor-item.result _ c.loop-factor-test.true c.factor-item.is c.loop-factor.invariant) (follows_stops ((factor_view c.factor-item.result).operand.means (around c.args.names.now) c.loop-factor.made) (λ y made. settled (stepped (factor_view c.factor-item.result).by c.loop-factor.run y) made) (λ done made. chain_on (map factor_view (drop (c.loop-factor.factor-index + 1) c.args.factors.now)) done (around c.args.names.now) made) _ _ c.expr-operand.new.made c.expr-operand.new.made c.from_residual.ensures.1 (c.in_err-run.ensures _ _ c.expr-operand.ensures))
+
+pub expressions::factors_on-loop-factor-preserved : goal.expressions::factors_on-loop-factor-preserved
+expressions::factors_on-loop-factor-preserved t c = next (λ l. chain_on (map factor_view l) c.loop-factor.run (around c.args.names.now) c.loop-factor.made) c.args.factors.now c.loop-factor.factor-index c.factor-item.result _ c.loop-factor-test.true c.factor-item.is c.loop-factor.invariant ∙ follows_is ((factor_view c.factor-item.result).operand.means (around c.args.names.now) c.loop-factor.made) (λ y made. settled (stepped (factor_view c.factor-item.result).by c.loop-factor.run y) made) (λ done made. chain_on (map factor_view (drop (c.loop-factor.factor-index + 1) c.args.factors.now)) done (around c.args.names.now) made) _ _ (c.in_ok-run.ensures _ _ c.expr-operand.ensures)
+
+pub expressions::factors_on-returns : goal.expressions::factors_on-returns
+expressions::factors_on-returns t c = rw (ended (λ l. chain_on (map factor_view l) c.loop-factor.run (around c.args.names.now) c.loop-factor.made) c.args.factors.now c.loop-factor.factor-index _ c.loop-factor-test.false c.loop-factor.invariant) (given _ _ _ c.chain_of.ensures)
+
+pub expressions::terms_on-returns-in_err-run : goal.expressions::terms_on-returns-in_err-run
+expressions::terms_on-returns-in_err-run t c = rw (next (λ l. chain_on (map term_view l) c.loop-term.run (around c.args.names.now) c.loop-term.made) c.args.terms.now c.loop-term.term-index c.term-item.result _ c.loop-term-test.true c.term-item.is c.loop-term.invariant) (follows_stops ((term_view c.term-item.result).operand.means (around c.args.names.now) c.loop-term.made) (λ y made. settled (stepped (term_view c.term-item.result).by c.loop-term.run y) made) (λ done made. chain_on (map term_view (drop (c.loop-term.term-index + 1) c.args.terms.now)) done (around c.args.names.now) made) _ _ c.expr-operand.new.made c.expr-operand.new.made c.from_residual.ensures.1 (c.in_err-run.ensures _ _ c.expr-operand.ensures))
+
+pub expressions::terms_on-loop-term-preserved : goal.expressions::terms_on-loop-term-preserved
+expressions::terms_on-loop-term-preserved t c = next (λ l. chain_on (map term_view l) c.loop-term.run (around c.args.names.now) c.loop-term.made) c.args.terms.now c.loop-term.term-index c.term-item.result _ c.loop-term-test.true c.term-item.is c.loop-term.invariant ∙ follows_is ((term_view c.term-item.result).operand.means (around c.args.names.now) c.loop-term.made) (λ y made. settled (stepped (term_view c.term-item.result).by c.loop-term.run y) made) (λ done made. chain_on (map term_view (drop (c.loop-term.term-index + 1) c.args.terms.now)) done (around c.args.names.now) made) _ _ (c.in_ok-run.ensures _ _ c.expr-operand.ensures)
+
+pub expressions::terms_on-returns : goal.expressions::terms_on-returns
+expressions::terms_on-returns t c = rw (ended (λ l. chain_on (map term_view l) c.loop-term.run (around c.args.names.now) c.loop-term.made) c.args.terms.now c.loop-term.term-index _ c.loop-term-test.false c.loop-term.invariant) (given _ _ _ c.chain_of.ensures)
+
+pub queries::froms_on-returns-in_err-done : goal.queries::froms_on-returns-in_err-done
+queries::froms_on-returns-in_err-done t c = let row = rw (c.len.ensures) at c.in_ok-at.ensures.0 in rw (next (λ l. froms_on (map from_part l) c.args.row c.loop-part.done (around c.args.names.now) c.loop-part.made) c.args.list.now c.loop-part.part-index c.part-item.result _ c.loop-part-test.true c.part-item.is c.loop-part.invariant, ← row) (follows_stops (from_part c.part-item.result c.in_ok-at.at (around c.args.names.now) c.loop-part.made) (λ more made. settled (put_beside c.loop-part.done more) made) (λ done made. froms_on (map from_part (drop (c.loop-part.part-index + 1) c.args.list.now)) c.args.row done (around c.args.names.now) made) _ _ c.from-more.new.made c.from-more.new.made c.from_residual-in_err-done.ensures.1 (c.in_err-done.ensures _ _ c.from-more.ensures))
+
+pub queries::froms_on-loop-part-preserved : goal.queries::froms_on-loop-part-preserved
+queries::froms_on-loop-part-preserved t c = let row = rw (c.len.ensures) at c.in_ok-at.ensures.0 in rw (next (λ l. froms_on (map from_part l) c.args.row c.loop-part.done (around c.args.names.now) c.loop-part.made) c.args.list.now c.loop-part.part-index c.part-item.result _ c.loop-part-test.true c.part-item.is c.loop-part.invariant, ← row) (follows_is (from_part c.part-item.result c.in_ok-at.at (around c.args.names.now) c.loop-part.made) (λ more made. settled (put_beside c.loop-part.done more) made) (λ done made. froms_on (map from_part (drop (c.loop-part.part-index + 1) c.args.list.now)) c.args.row done (around c.args.names.now) made) _ _ (c.in_ok-done.ensures _ _ c.from-more.ensures))
+
+pub queries::froms_on-returns : goal.queries::froms_on-returns
+queries::froms_on-returns t c = ended (λ l. froms_on (map from_part l) c.args.row c.loop-part.done (around c.args.names.now) c.loop-part.made) c.args.list.now c.loop-part.part-index _ c.loop-part-test.false c.loop-part.invariant
+
+pub expressions::maybe_condition-returns : goal.expressions::maybe_condition-returns
+expressions::maybe_condition-returns t c = condition_meets (option_map part c.args.e.now) (around c.args.names.now) c.args.made.now c.truth_if.result c.maybe-condition.new.made (c.truth_if.ensures _ _ c.maybe-condition.ensures)
+
+pub queries::maybe_limit-returns : goal.queries::maybe_limit-returns
+queries::maybe_limit-returns t c = limit_meets (option_map part c.args.e.now) (around c.args.names.now) c.args.made.now c.limit_if.result c.maybe-count.new.made (c.limit_if.ensures _ _ c.maybe-count.ensures)
+
+pub expressions::expr-returns-in-Subquery : goal.expressions::expr-returns-in-Subquery
+expressions::expr-returns-in-Subquery t c = rw (c.in-Subquery.is, part_subquery, ← c.get.ensures) (c.scalar_of.ensures _ _ c.query-inner.ensures)
+
+pub expressions::expr-returns-in-Exists : goal.expressions::expr-returns-in-Exists
+expressions::expr-returns-in-Exists t c = rw (c.in-Exists.is, part_exists, ← c.get-in-Exists.ensures) (c.exists_of.ensures _ _ c.query-inner-in-Exists.ensures)
+
+pub expressions::expr-returns-in_ok-done-in-Case : goal.expressions::expr-returns-in_ok-done-in-Case
+expressions::expr-returns-in_ok-done-in-Case t c = rw (c.in-Case.is, part_case_view, ← c.as_slice-in-Case.ensures) (goes_on _ _ _ _ _ _ c.in_ok-operand-in-Case.ensures (rw (← c.operand_type-ty.ensures, ← c.tree_of.ensures) (goes_on _ _ _ _ _ _ c.in_ok-done-in-Case.ensures (c.cased.ensures _ _ c.maybe-otherwise.ensures))))
+
+pub expressions::expr-returns-in-Cast : goal.expressions::expr-returns-in-Cast
+expressions::expr-returns-in-Cast t c = rw (c.in-Cast.is, part_cast, ← c.as_slice-in-Cast.ensures) (c.cast_known.ensures _ _ c.boxed-operand.ensures)
+
+pub expressions::expr-returns-in-Signed : goal.expressions::expr-returns-in-Signed
+expressions::expr-returns-in-Signed t c = rw (c.in-Signed.is, part_signed, ← c.as_slice-in-Signed.ensures) (c.signed_of.ensures _ _ c.boxed-operand-in-Signed.ensures)
+
+pub expressions::expr-returns-in-Is : goal.expressions::expr-returns-in-Is
+expressions::expr-returns-in-Is t c = rw (c.in-Is.is, part_is) (c.asked_of.ensures _ _ c.boxed-operand-in-Is.ensures)
+
+pub expressions::expr-returns-in-Not : goal.expressions::expr-returns-in-Not
+expressions::expr-returns-in-Not t c = rw (c.in-Not.is, part_not) (c.negated_of.ensures _ _ c.boxed-operand-in-Not.ensures)
+
+pub expressions::expr-returns-in_ok-operand-in-InQuery : goal.expressions::expr-returns-in_ok-operand-in-InQuery
+expressions::expr-returns-in_ok-operand-in-InQuery t c = rw (c.in-InQuery.is, part_in_query, ← c.get-in-InQuery.ensures) (goes_on _ _ _ _ _ _ c.in_ok-operand-in-InQuery.ensures (c.in_query_of.ensures _ _ c.query-inner-in-InQuery.ensures))
+
+pub expressions::expr-returns-in_err-first-in-InList : goal.expressions::expr-returns-in_err-first-in-InList
+expressions::expr-returns-in_err-first-in-InList t c = rw (c.in-InList.is, part_in_list) (in_list_stops _ _ (map part c.in-InList.list) c.new-in-InList.result (around c.args.names.now) c.boxed-operand-in-InList.new.made _ _ c.boxed-operand-in-InList.new.made c.new-in-InList.ensures c.from_residual-in_err-first-in-InList.ensures.1 (c.in_err-first-in-InList.ensures _ _ c.boxed-operand-in-InList.ensures))
+
+pub expressions::expr-returns-in_ok-first-in-InList : goal.expressions::expr-returns-in_ok-first-in-InList
+expressions::expr-returns-in_ok-first-in-InList t c = rw (c.in-InList.is, part_in_list, ← c.as_slice-in-InList.ensures) (in_list_goes _ _ (map part c.as_slice-in-InList.result.now) c.new-in-InList.result (around c.args.names.now) c.boxed-operand-in-InList.new.made c.gathered_on-in-InList.result _ c.gathered_on-in-InList.new.made c.new-in-InList.ensures (c.in_ok-first-in-InList.ensures _ _ c.boxed-operand-in-InList.ensures) c.gathered_on-in-InList.ensures)
+
+pub expressions::expr-returns-in-Like : goal.expressions::expr-returns-in-Like
+expressions::expr-returns-in-Like t c = rw (c.in-Like.is, part_like) (c.second-in-Like.ensures _ c.boxed-operand-in-Like.ensures)
+
+pub queries::from-returns-in-Function : goal.queries::from-returns-in-Function
+queries::from-returns-in-Function t c = rw (c.in-Function.is, from_function, ← c.as_slice.ensures) (c.valued_of.ensures _ _ c.call-value.ensures)
+
+pub queries::from-returns-in-Subquery : goal.queries::from-returns-in-Subquery
+queries::from-returns-in-Subquery t c = rw (c.in-Subquery.is, from_query, ← c.get.ensures) (c.derived_of.ensures _ _ c.query-inner.ensures)
+
+pub queries::item_on-returns-in-Value : goal.queries::item_on-returns-in-Value
+queries::item_on-returns-in-Value t c = rw (c.in-Value.is, item_value) (c.with_value.ensures _ _ c.expr-value.ensures)
+
+pub queries::group_on-returns-in-None : goal.queries::group_on-returns-in-None
+queries::group_on-returns-in-None t c = rw (← c.as_written.ensures, ← c.group_written-written.ensures, ← c.as_slice.ensures, ← c.as_slice-2.ensures) (step_goes _ _ _ _ _ _ (rw (c.in-None.is) at c.in_ok-at.ensures) (c.tree_alone.ensures _ _ c.expr-key.ensures))
+
+pub queries::key_on-returns-in-None : goal.queries::key_on-returns-in-None
+queries::key_on-returns-in-None t c = rw (← c.as_written.ensures) (step_goes _ _ _ _ _ _ (rw (c.in-None.is, c.as_slice.ensures) at c.in_ok-at.ensures) (c.by_value.ensures _ _ c.expr-value.ensures))
+
+pub queries::key_on-returns-in-Some : goal.queries::key_on-returns-in-Some
+queries::key_on-returns-in-Some t c = rw (← c.as_written.ensures) (step_goes _ _ _ _ _ _ (rw (c.in-Some.is, c.as_slice.ensures) at c.in_ok-at.ensures) (given _ _ _ c.by_item.ensures))
+
+pub queries::join_on-returns-in_err-both : goal.queries::join_on-returns-in_err-both
+queries::join_on-returns-in_err-both t c = let row = rw (c.len.ensures) at c.in_ok-at.ensures.0 in join_stops (join_view c.args.join.now) c.args.row c.in_ok-at.at c.args.done (around c.args.names.now) c.args.made.now c.from-with.new.made _ _ c.from-with.new.made row c.from_residual-in_err-both.ensures.1 (c.in_err-both.ensures _ _ c.from-with.ensures)
+
+pub queries::join_on-returns : goal.queries::join_on-returns
+queries::join_on-returns t c = let row = rw (c.len.ensures) at c.in_ok-at.ensures.0 in join_goes (join_view c.args.join.now) c.args.row c.in_ok-at.at c.args.done (around c.args.names.now) c.args.made.now c.from-with.new.made c.joined_on.result _ c.join_condition-on.new.made row (c.in_ok-both.ensures _ _ c.from-with.ensures) (c.joined_on.ensures _ _ c.join_condition-on.ensures)
+
+pub expressions::boxed-returns : goal.expressions::boxed-returns
+expressions::boxed-returns t c = rw (← c.get.ensures) c.expr.ensures

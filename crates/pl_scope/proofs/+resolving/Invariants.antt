@@ -1,7 +1,8 @@
-use Rattle.std.proofs.Common.{◌≡◌, [], map, drop, None}
+use Rattle.std.proofs.Common.{◌≡◌, [], map, drop}
 use Rattle.pl_names.specs.Names.{around}
 use Rattle.pl_names.specs.Sources.{no_items}
-use Rattle.pl_scope.specs.Expressions.{arguments_on, listed_on, fields_on, run_on, concat_on, conditions, arms_on}
+use Rattle.pl_scope.specs.Expressions.{arguments_on, arms_on}
+use Rattle.pl_scope.specs.Gathered.{chain_on, gather}
 use Rattle.pl_scope.specs.Steps.{no_froms}
 use Rattle.pl_scope.specs.Queries.{froms_on, joins_on, items_on, groups_on, keys_on}
 use Rattle.pl_scope.specs.Resolution.{part, argument_part, from_part, item_part, term_view, factor_view, arm_view, key_view, join_view}
@@ -9,26 +10,17 @@ use Rattle.pl_typing.specs.Calls.{no_arguments}
 use Rattle.pl_typing.specs.Cases.{no_arms}
 use Rattle.pl_scope.proofs.+resolving.Given as goal
 
+abbrev pub invariant-expressions::gathered_on-loop-part : goal.invariant-expressions::gathered_on-loop-part
+invariant-expressions::gathered_on-loop-part l = gather (map part l.list) l.fn.first (around l.names) l.fn.made ≡ gather (map part (drop l.part-index l.list)) l.done (around l.names) l.made
+
 abbrev pub invariant-expressions::arguments_on-loop-part : goal.invariant-expressions::arguments_on-loop-part
 invariant-expressions::arguments_on-loop-part l = arguments_on (map argument_part l.list) no_arguments (around l.names) l.fn.made ≡ arguments_on (map argument_part (drop l.part-index l.list)) l.done (around l.names) l.made
 
-abbrev pub invariant-expressions::listed_on-loop-part : goal.invariant-expressions::listed_on-loop-part
-invariant-expressions::listed_on-loop-part l = listed_on (map part l.list) l.fn.first (around l.names) l.fn.made ≡ listed_on (map part (drop l.part-index l.list)) l.done (around l.names) l.made
-
-abbrev pub invariant-expressions::fields_on-loop-part : goal.invariant-expressions::fields_on-loop-part
-invariant-expressions::fields_on-loop-part l = fields_on (map part l.list) no_arguments (around l.names) l.fn.made ≡ fields_on (map part (drop l.part-index l.list)) l.done (around l.names) l.made
-
 abbrev pub invariant-expressions::terms_on-loop-term : goal.invariant-expressions::terms_on-loop-term
-invariant-expressions::terms_on-loop-term l = run_on (map term_view l.terms) l.fn.first (around l.names) l.fn.made ≡ run_on (map term_view (drop l.term-index l.terms)) l.run (around l.names) l.made
+invariant-expressions::terms_on-loop-term l = chain_on (map term_view l.terms) l.fn.first (around l.names) l.fn.made ≡ chain_on (map term_view (drop l.term-index l.terms)) l.run (around l.names) l.made
 
 abbrev pub invariant-expressions::factors_on-loop-factor : goal.invariant-expressions::factors_on-loop-factor
-invariant-expressions::factors_on-loop-factor l = run_on (map factor_view l.factors) l.fn.first (around l.names) l.fn.made ≡ run_on (map factor_view (drop l.factor-index l.factors)) l.run (around l.names) l.made
-
-abbrev pub invariant-expressions::concat_on-loop-part : goal.invariant-expressions::concat_on-loop-part
-invariant-expressions::concat_on-loop-part l = concat_on (map part l.list) None (around l.names) l.fn.made ≡ concat_on (map part (drop l.part-index l.list)) l.done (around l.names) l.made
-
-abbrev pub invariant-expressions::conditions-loop-part : goal.invariant-expressions::conditions-loop-part
-invariant-expressions::conditions-loop-part l = conditions (map part l.list) [] (around l.names) l.fn.made ≡ conditions (map part (drop l.part-index l.list)) l.done (around l.names) l.made
+invariant-expressions::factors_on-loop-factor l = chain_on (map factor_view l.factors) l.fn.first (around l.names) l.fn.made ≡ chain_on (map factor_view (drop l.factor-index l.factors)) l.run (around l.names) l.made
 
 abbrev pub invariant-expressions::arms_on-loop-arm : goal.invariant-expressions::arms_on-loop-arm
 invariant-expressions::arms_on-loop-arm l = arms_on l.operand (map arm_view l.arms) no_arms (around l.names) l.fn.made ≡ arms_on l.operand (map arm_view (drop l.arm-index l.arms)) l.done (around l.names) l.made

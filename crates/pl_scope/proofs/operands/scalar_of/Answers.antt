@@ -1,0 +1,8 @@
+use Rattle.pl_scope.proofs.Following.{follows_err, follows_ok}
+use Rattle.pl_scope.proofs.operands.scalar_of.Goals as goal
+
+pub returns-in-Ok : goal.returns-in-Ok
+returns-in-Ok c = follows_ok _ _ _ _ c.in-Ok.is (rw (c.as_slice.ensures) at c.scalar.ensures)
+
+pub returns-in-Err : goal.returns-in-Err
+returns-in-Err c = follows_err _ _ _ c.in-Err.is
