@@ -1,4 +1,4 @@
--- What is kept of a state within an evaluation.
+-- Proofs that other crates' proofs may cite; no definition. What is kept of a state within an evaluation.
 use Rattle.std.proofs.Common.{◌≡◌, ◌≤◌, ◌+◌, ◌-◌, ◌∙◌, ℕ, Bool, true, false, List, [], ◌∷◌, ◌++◌, Option, Some, None, Ok, Err, append-nil, ap, arith, refl, subst, sym}
 use Rattle.pl_base.specs.declared.fail.Fail.{Fail}
 use Rattle.pl_base.specs.declared.state.State.{State}

@@ -1,6 +1,7 @@
 pub mod Entered
-mod Keeping
+pub mod Keeping
 mod Named
-mod Overs
+pub mod Overs
 pub mod Settled
 mod Telling
+mod Written

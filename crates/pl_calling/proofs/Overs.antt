@@ -1,4 +1,4 @@
--- What is read over what is kept of a state was read over the whole of it.
+-- Proofs that other crates' proofs may cite; no definition. What is read over what is kept of a state was read over the whole of it.
 use Rattle.std.proofs.Common.{◌≡◌, ℕ, List, [], ◌∷◌, Result, map, refl, subst}
 use Rattle.std.specs.List.{AllZip}
 use Rattle.pl_base.specs.declared.value.Value.{Value}
@@ -32,10 +32,10 @@ use Rattle.pl_world.specs.Variables.{row_of}
 use Rattle.pl_world.specs.World.{World}
 
 module _ (at : Spot) (room : ℕ) where
-  agree : CallsAgree (keep at room) (calls (runner_for do_bodies room) at) calls_kept
+  pub agree : CallsAgree (keep at room) (calls (runner_for do_bodies room) at) calls_kept
   agree name values x = calls_agree at room name values x
 
-  inside_agree : (queries : List RQuery) (tables : Tables) → SubsAgree (keep at room) (rows (calls (runner_for do_bodies room) at) queries tables) (rows calls_kept queries tables)
+  pub inside_agree : (queries : List RQuery) (tables : Tables) → SubsAgree (keep at room) (rows (calls (runner_for do_bodies room) at) queries tables) (rows calls_kept queries tables)
   inside_agree queries tables = rows_agree (keep at room) (calls (runner_for do_bodies room) at) calls_kept agree queries tables
 
   module _ (w : World) (row : Row) (sub : Sub Standing) (s : Standing) (begins : s ≡ fresh at room w) where

@@ -18,7 +18,7 @@ use std::mem;
 /// What makes calls while an expression is evaluated: it has the engine. What is printed is held,
 /// since of what follows nobody knows yet whether there is memory for it.
 #[derive(Drop)]
-pub(crate) struct Calling<'r, B: Start, R: BodyRunner> {
+pub struct Calling<'r, B: Start, R: BodyRunner> {
     pub(crate) engine: Engine,
     pub(crate) held: Held,
     bodies: &'r R,
@@ -50,7 +50,7 @@ impl<'r, B: Start, R: BodyRunner> Model for Calling<'r, B, R> {
 
 impl<'r, B: Start, R: BodyRunner> Calling<'r, B, R> {
     /// It takes the engine.
-    pub(crate) fn begin(calls: &Calls<'r, R>, engine: &mut Engine, at: Spot) -> Calling<'r, B, R>
+    pub fn begin(calls: &Calls<'r, R>, engine: &mut Engine, at: Spot) -> Calling<'r, B, R>
         requires begins { B.begin ≡ world engine.old }
         requires stays { B.stays ≡ kept engine.old }
         requires room { (world engine.old).steps ≤ calls.now.room }

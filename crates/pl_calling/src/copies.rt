@@ -15,7 +15,7 @@ use pl_resolved::RQuery;
 use std::alloc::AllocError;
 
 /// The tables that these queries read, as they are now.
-pub(crate) fn copies_for<C>(engine: &Engine, queries: &List<RQuery>) -> Result<Copies, AllocError>
+pub fn copies_for<C>(engine: &Engine, queries: &List<RQuery>) -> Result<Copies, AllocError>
     ensures { IfOk result (λ copies. (calls : Calls C)
         → rows calls queries.now (copied copies.list.items)
         ≡ rows calls queries.now (tables_of (world engine.now).database.tables)) }

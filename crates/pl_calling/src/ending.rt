@@ -77,7 +77,7 @@ pub(crate) fn tell<P: Port>(port: &mut P, pieces: &[Txt]) -> Result<(), Stop>
 }
 
 /// The engine comes back, and what was held is printed.
-pub(crate) fn finish<'r, B: Start, P: Port, R: BodyRunner, A: Drop>(
+pub fn finish<'r, B: Start, P: Port, R: BodyRunner, A: Drop>(
     engine: &mut Engine,
     port: &mut P,
     at: Spot,

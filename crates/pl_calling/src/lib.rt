@@ -13,10 +13,15 @@ mod lending;
 mod querying;
 mod start;
 mod trial;
+mod writing;
 
 pub use arguments::evaluate_all;
 pub use bodies::{MOST_CALLS, given};
 pub use callee::{Found, find};
+pub use calling::Calling;
 pub use converting::{as_type, convert, run_state};
+pub use copies::copies_for;
+pub use ending::finish;
 pub use evaluating::{evaluate, evaluate_beside};
 pub use querying::query;
+pub use start::Start;

@@ -7,7 +7,7 @@ ghost use Rattle.pl_world.specs.World.{World};
 use std::marker::Brand;
 
 /// How an evaluation begins. It stands in proofs alone: who evaluates picks it.
-pub(crate) trait Start {
+pub trait Start {
     /// The world in which it begins.
     ghost begin: { World };
 

@@ -1,24 +1,24 @@
 -- Rows that WHERE turns down may be left out.
-use Rattle.std.proofs.Common.{◌≡◌, ◌<◌, ◌≤◌, ◌+◌, ◌⊎◌, inl, inr, refl, sym, ap, ◌∙◌, subst, ℕ, Bool, true, false, cond, ◌&&◌, nat_eq, List, [], ◌∷◌, ◌++◌, map, Option, Some, None, Result, Ok, Err, arith}
+use Rattle.std.proofs.Common.{◌≡◌, ◌<◌, ◌≤◌, ◌+◌, inl, inr, refl, sym, ap, ◌∙◌, ℕ, Bool, true, false, cond, nat_eq, List, [], ◌∷◌, ◌++◌, map, Option, Some, None, Result, Ok, Err, arith}
 use Rattle.std.specs.Prelude.{option_and_then, option_map, IfOk}
 use Rattle.std.specs.Map.{remove_entry, set_value}
 use Rattle.pl_base.specs.declared.state.State.{State}
 use Rattle.pl_catalog.specs.declared.object.Object.{Object}
 use Rattle.pl_catalog.specs.declared.object.TableDef.{TableDef}
 use Rattle.pl_catalog.specs.Objects.{table_named, tables_in}
-use Rattle.pl_change.proofs.Asked.{first_so, keyed, second_so}
 use Rattle.pl_change.proofs.Noted.{if_ok_then}
+use Rattle.pl_change.proofs.TurnedDown.{down, head_there, others_last}
 use Rattle.pl_change.proofs.Turns.{row_there}
 use Rattle.pl_change.specs.ByKey.{AreEnough, IsFound, listed}
 use Rattle.pl_change.specs.Changes.{Progress, Setting, assigned, at_row, behind, deletes, if_some, ids, progress, returning, set_if, shown_if, takes, told, updates, values_if, writes}
 use Rattle.pl_journal.proofs.OneTable.{content_changed}
-use Rattle.pl_journal.proofs.Truths.{chained, equal_number, none_some, other_number, own_number, same_number, some_is, true_false}
+use Rattle.pl_journal.proofs.Truths.{chained, equal_number, none_some, other_number, same_number, some_is, true_false}
 use Rattle.pl_journal.specs.Sound.{AreRows}
 use Rattle.pl_journal.specs.Writing.{other_refused, unless, unless_broken, with_row, written, written_by}
 use Rattle.pl_product.specs.Product as product
 use Rattle.pl_query.specs.Rows.{in_turn}
 use Rattle.pl_resolved.specs.declared.expression.RExpr.{RExpr}
-use Rattle.pl_rules.specs.Rules.{all_pass, first_failure, fits, holds, none_lacks}
+use Rattle.pl_rules.specs.Rules.{first_failure, holds}
 use Rattle.pl_rules.specs.declared.rules.RuleFail.{RuleFail}
 use Rattle.pl_tables.specs.Named as tables
 use Rattle.pl_tables.specs.Named.{Named, content_named, on_table, row_named}
@@ -174,35 +174,14 @@ module _ {W : Type 0} (s : Setting W) where
       abbrev at_start : Progress → ℕ → Type 0
       at_start p id = row_named s.change.table id p.tables ≡ row_at id all
 
-      holds_parts : (row : Row) → holds by.table row ≡ true → (fits by.table.columns row ≡ true) × (none_lacks by.table.columns row ≡ true)
-      holds_parts row is =
-          let both = first_so (fits by.table.columns row && none_lacks by.table.columns row) (all_pass by.table.rules row) is in
-          (first_so (fits by.table.columns row) (none_lacks by.table.columns row) both, second_so (fits by.table.columns row) (none_lacks by.table.columns row) both)
-
-      -- a row of another id
       other_down : (id : ℕ) (row : Row) → row_at id all ≡ Some row → holds by.table row ≡ true → (found ≡ Some id → ⊥) → IsTurnedDown (Some x) row
-      other_down id row there rules other =
-          let has = holds_parts row rules in
-          let key = by.only.by in
-          either (keyed s.calls s.inner s.around row by.table.columns has.0 has.1 key.columns x by.only.asked key.parts by.only.asks key.key)
-        where
-          either : (key_of by.only.by.columns row ≡ Some by.only.by.parts) ⊎ IsTurnedDown (Some x) row → IsTurnedDown (Some x) row
-          either (inl is) = absurd (other ((by.only.by.only id).1 (ap (λ (o : Option Row). option_and_then (key_of by.only.by.columns) o) there ∙ is)))
-          either (inr down) = down
+      other_down id row there rules other w = down s.calls s.inner by id row there rules other w
 
       skipped : (id : ℕ) (row : Row) → row_at id all ≡ Some row → holds by.table row ≡ true → (found ≡ Some id → ⊥) → (p : Progress) (w : W) → at_start p id → does id p w ≡ got p w
       skipped id row there rules other p w same = over id row p w (same ∙ there) (other_down id row there rules other)
 
-      -- rows are the last of all rows
       abbrev AreLast : ℕ → List (ℕ × Row) → Type 0
       AreLast low rows = (id : ℕ) → low ≤ id → row_at id rows ≡ row_at id all
-
-      head_there : (low : ℕ) (row : ℕ × Row) (rows : List (ℕ × Row)) → low ≤ row.0 → AreLast low (row ∷ rows) → row_at row.0 all ≡ Some row.1
-      head_there low row rows le last = sym (last row.0 le) ∙ ap (λ (b : Bool). cond b (Some row.1) (row_at row.0 rows)) (own_number row.0)
-
-      others_last : (low : ℕ) (row : ℕ × Row) (rows : List (ℕ × Row)) → low ≤ row.0 → AreLast low (row ∷ rows) → AreLast (row.0 + 1) rows
-      others_last low row rows le last id above =
-          sym (ap (λ (b : Bool). cond b (Some row.1) (row_at id rows)) (other_number id row.0 (λ e. omega (arith, e, above)))) ∙ last id (omega (arith, le, above))
 
       abbrev ids_of : List (ℕ × Row) → List ℕ
       ids_of rows = map (λ (entry : ℕ × Row). entry.0) rows
@@ -214,8 +193,8 @@ module _ {W : Type 0} (s : Setting W) where
       rest_skipped low (row ∷ rows) high are last below p w same =
           let from = are.0 in
           ap (λ (r : Reading W Progress). then_read {B = Progress} r (λ p w. in_turn does (ids_of rows) p w))
-          (skipped row.0 row.1 (head_there low row rows from last) are.1 (λ e. (let less = below row.0 e in absurd (omega (arith, less, from)))) p w (same row.0 from))
-          ∙ rest_skipped (row.0 + 1) rows high are.2 (others_last low row rows from last) (λ n e. (let less = below n e in omega (arith, less, from))) p w (λ id le. same id (omega (arith, le, from)))
+          (skipped row.0 row.1 (head_there all low row rows from last) are.1 (λ e. (let less = below row.0 e in absurd (omega (arith, less, from)))) p w (same row.0 from))
+          ∙ rest_skipped (row.0 + 1) rows high are.2 (others_last all low row rows from last) (λ n e. (let less = below n e in omega (arith, less, from))) p w (λ id le. same id (omega (arith, le, from)))
 
       -- where it is
       one_left : (n : ℕ) → found ≡ Some n → (low : ℕ) (rows : List (ℕ × Row)) (high : ℕ) → AreRows by.table low rows high → AreLast low rows → (there : Row) → row_at n rows ≡ Some there → (p : Progress) (w : W) → ((id : ℕ) → at_start p id)
@@ -228,13 +207,13 @@ module _ {W : Type 0} (s : Setting W) where
                 let own : n ≡ row.0 = same_number n row.0 e in
                 then_alike (does row.0 p w) (λ p w. in_turn does (ids_of rows) p w) (λ p w. got p w) (λ now. (other : ℕ) → nat_eq other row.0 ≡ false → row_named s.change.table other now.tables ≡ row_named s.change.table other p.tables)
                 (all_keep row.0 p w)
-                (λ now w stays. rest_skipped (row.0 + 1) rows high are.2 (others_last low row rows from last) (λ m e. (let o : m ≡ n = some_is m n (sym e ∙ is) in omega (arith, o, own))) now w
+                (λ now w stays. rest_skipped (row.0 + 1) rows high are.2 (others_last all low row rows from last) (λ m e. (let o : m ≡ n = some_is m n (sym e ∙ is) in omega (arith, o, own))) now w
                 (λ id le. stays id (other_number id row.0 (λ e. omega (arith, e, le))) ∙ same id))
                 ∙ ap (λ (m : ℕ). in_turn does (m ∷ []) p w) (sym own)
             | false ↦ λ e h.
                 ap (λ (r : Reading W Progress). then_read {B = Progress} r (λ p w. in_turn does (ids_of rows) p w))
-                (skipped row.0 row.1 (head_there low row rows from last) are.1 (λ o. true_false (sym (equal_number n row.0 (some_is n row.0 (sym is ∙ o))) ∙ e)) p w (same row.0))
-                ∙ one_left n is (row.0 + 1) rows high are.2 (others_last low row rows from last) there h p w same
+                (skipped row.0 row.1 (head_there all low row rows from last) are.1 (λ o. true_false (sym (equal_number n row.0 (some_is n row.0 (sym is ∙ o))) ∙ e)) p w (same row.0))
+                ∙ one_left n is (row.0 + 1) rows high are.2 (others_last all low row rows from last) there h p w same
           ]) refl has
         where
           got_all : (id : ℕ) (p : Progress) (r : Reading W Progress) → ((other : ℕ) → nat_eq other id ≡ false → OnGot r (λ now. row_named s.change.table other now.tables ≡ row_named s.change.table other p.tables))
@@ -265,8 +244,9 @@ module _ {W : Type 0} (s : Setting W) (ts : List Named) (made : List ℕ) (w : W
   few_or_all : (condition : Option RExpr) (does : ℕ → Progress → W → Reading W Progress) → KeepsOthers s does → PassesOver s condition does → AreEnough s.change.table condition s.around ts made
       → in_turn does (ids s.change.table ts) (progress ts []) w ≡ in_turn does made (progress ts []) w
   few_or_all condition does keeps over (inl is) = ap (λ (list : List ℕ). in_turn does list (progress ts []) w) (sym is)
-  few_or_all condition does keeps over (inr few) =
-      left_alike s few.x does keeps (subst (λ (o : Option RExpr). PassesOver s o does) few.asked over) ts few.found few.by w
+  few_or_all None does keeps over (inr few) = absurd few.by
+  few_or_all (Some x) does keeps over (inr few) =
+      left_alike s x does keeps over ts few.found few.by w
       ∙ ap (λ (list : List ℕ). in_turn does list (progress ts []) w) (sym few.few)
 
   -- an UPDATE, and a DELETE, of these rows is that of all rows

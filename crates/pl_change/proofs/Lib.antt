@@ -5,4 +5,5 @@ mod Copying
 mod LeftOut
 mod Noted
 mod Standing
+pub mod TurnedDown
 mod Turns

@@ -7,7 +7,7 @@ use Rattle.pl_base.specs.declared.value.Value.TheVariants.{Null}
 use Rattle.pl_catalog.specs.declared.object.Column.{Column}
 use Rattle.pl_catalog.specs.declared.object.Rule.{Rule}
 use Rattle.pl_catalog.specs.declared.object.TableDef.{TableDef}
-use Rattle.pl_change.specs.ByKey.{Asks, AreAsked, AreByKey, AreFound, AreLeft, Begins, IsTest}
+use Rattle.pl_change.specs.ByKey.{Asks, AreAsked, AreByKey, AreFound, AreFoundFor, AreLeft, Begins, IsTest}
 use Rattle.pl_change.specs.declared.by_key.Candidates.{Candidates}
 use Rattle.pl_change.specs.declared.by_key.Candidates.TheVariants.{All, Only}
 use Rattle.pl_journal.proofs.Truths.{none_some, some_is}
@@ -121,3 +121,7 @@ pub without_key : (keys : List (List ℕ)) (number : ℕ) (rules : List Rule) (i
     → drop number keys ≡ keys_in (drop (i + 1) rules)
 without_key keys number rules i r lt is rest has =
     rest ∙ (next_rule rules i r lt is ∙ ap (λ (o : Option (List ℕ)). cons_option o (keys_in (drop (i + 1) rules))) has)
+
+pub found_for : (name : List ℕ) (x : RExpr) (around : Frame) (ts : List Named) (found : Candidates) → AreFound name x around ts found → AreFoundFor name (Some x) around ts found
+found_for name x around ts All is = tt
+found_for name x around ts (Only found) is = is

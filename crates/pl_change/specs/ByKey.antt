@@ -123,17 +123,25 @@ abbrev pub AreFound : List ℕ → RExpr → Frame → List Named → Candidates
 AreFound name x around ts All = Unit {0}
 AreFound name x around ts (Only found) = IsFound name x around ts found
 
+-- WHERE turns down its rows but for this one; where it is left out, it turns down none
+abbrev pub IsFoundFor : List ℕ → Option RExpr → Frame → List Named → Option ℕ → Type 0
+IsFoundFor name None around ts found = ⊥
+IsFoundFor name (Some x) around ts found = IsFound name x around ts found
+
+-- the rows of the table of this name that a command with this WHERE has to visit
+abbrev pub AreFoundFor : List ℕ → Option RExpr → Frame → List Named → Candidates → Type 0
+AreFoundFor name condition around ts All = Unit {0}
+AreFoundFor name condition around ts (Only found) = IsFoundFor name condition around ts found
+
 abbrev pub listed : Option ℕ → List ℕ
 listed None = []
 listed (Some id) = id ∷ []
 
--- WHERE is a condition that turns down all rows but those of these ids
+-- WHERE turns down all rows but those of these ids
 pub record IsFew (name : List ℕ) (condition : Option RExpr) (around : Frame) (ts : List Named)
     (made : List ℕ) : Type 0 where
-  pub x : RExpr
-  pub asked : condition ≡ Some x
   pub found : Option ℕ
-  pub by : IsFound name x around ts found
+  pub by : IsFoundFor name condition around ts found
   pub few : made ≡ listed found
 
 -- these are the ids of all rows, or of those that a command has to visit

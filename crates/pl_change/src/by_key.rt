@@ -7,8 +7,8 @@ ghost use Rattle.std.specs.Option.{option_copied};
 ghost use Rattle.pl_base.specs.declared.value.Value as base;
 ghost use Rattle.pl_change.specs.ByKey as spec;
 ghost use Rattle.pl_change.specs.ByKey.{AreAsked, AreByKey, AreCompared, AreEnough, AreFound};
-ghost use Rattle.pl_change.specs.ByKey.{AreLeft, Asks, Begins, IsCompared, IsEquality, IsFixed};
-ghost use Rattle.pl_change.specs.ByKey.{IsTest, listed};
+ghost use Rattle.pl_change.specs.ByKey.{AreFoundFor, AreLeft, Asks, Begins, IsCompared};
+ghost use Rattle.pl_change.specs.ByKey.{IsEquality, IsFixed, IsTest, listed};
 ghost use Rattle.pl_journal.specs.Sound.{IsSound};
 ghost use Rattle.pl_resolved.specs.declared.expression.RExpr.TheVariants as tree;
 ghost use Rattle.pl_resolved.specs.declared.expression.RPair.{out-RPair};
@@ -36,7 +36,7 @@ struct Equality<'e> {
 
 /// The rows of a table that WHERE may pass.
 #[derive(Clone, Copy)]
-pub(crate) enum Candidates {
+pub enum Candidates {
     All,
     /// The row of this id alone, or none.
     Only(Option<u64>),
@@ -342,26 +342,27 @@ fn list_of(alloc: Global, found: Option<u64>) -> Result<Vec<u64>, AllocError>
     Ok(ids)
 }
 
-// The ids of the rows that a command with this condition has to visit.
-fn ids_where<'e>(
+/// The rows that a command with this WHERE has to visit: one row, or none, where it asks for each
+/// column of a key before it asks anything that may fail, and else all rows of the table. What it
+/// compares the columns with are constants, or cells of the rows that stand around.
+pub fn candidates_for<'a>(
     alloc: Global,
     name: Name,
-    condition: &'e RExpr,
-    around: &[Lent<'e>],
+    condition: &'a Option<Boxed<RExpr>>,
+    around: &[Lent<'a>],
     journal: &Journal,
-) -> Result<Vec<u64>, AllocError>
+) -> Result<Candidates, AllocError>
     requires { IsSound journal.now.now }
-    ensures { IfOk result (λ made. AreEnough name (Some condition.now) (rows_of around.now)
-        journal.now.now.tables made.items) }
+    ensures { IfOk result (λ found. AreFoundFor name condition.now (rows_of around.now)
+        journal.now.now.tables found) }
 {
-    match candidates_of(alloc, name, condition, around, journal)? {
-        Candidates::All => ids_of(alloc, journal, name),
-        Candidates::Only(found) => list_of(alloc, found),
+    match condition {
+        None => Ok(Candidates::All),
+        Some(condition) => candidates_of(alloc, name, condition.get(), around, journal),
     }
 }
 
-/// The ids of the rows that a command with this WHERE has to visit: one row, or none, where it asks
-/// for each column of a key before it asks anything that may fail, and else all rows of the table.
+/// The ids of these rows.
 pub(crate) fn ids_for<'a>(
     alloc: Global,
     command: &Command<'a>,
@@ -372,14 +373,9 @@ pub(crate) fn ids_for<'a>(
     ensures { IfOk result (λ made. AreEnough command.now.change.now.table condition.now
         (rows_of command.now.around.now) journal.now.now.tables made.items) }
 {
-    match condition {
-        None => ids_of(alloc, journal, command.change.table),
-        Some(condition) => ids_where(
-            alloc,
-            command.change.table,
-            condition.get(),
-            &*command.around,
-            journal,
-        ),
+    let name = command.change.table;
+    match candidates_for(alloc, name, condition, &*command.around, journal)? {
+        Candidates::All => ids_of(alloc, journal, name),
+        Candidates::Only(found) => list_of(alloc, found),
     }
 }

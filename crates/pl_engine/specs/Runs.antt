@@ -19,7 +19,7 @@ use Rattle.pl_world.specs.declared.outcome.Outcome.{Outcome}
 abbrev pub run_as : Bodies → ℕ → Task → World → Ran Outcome
 run_as bodies room (task.Statement s) w = run_within bodies room (statement s.now) w
 run_as bodies room (task.Body b) w = run_within bodies room (body b.now) w
-run_as bodies room (task.Ask at what) w = asked (runner_for bodies room) at what w
+run_as bodies room (task.Ask at what) w = asked (runner_for bodies room) at.now what w
 
 -- where there is room for the steps that are left, and the port fits, it may be called, answers
 -- what the task does, and keeps what each statement keeps

@@ -26,7 +26,7 @@ pub enum Task<'a> {
     /// The body of a routine that is called.
     Body(&'a Body),
     /// What the statement at this spot asks.
-    Ask(Spot, Ask<'a>),
+    Ask(&'a Spot, Ask<'a>),
 }
 
 /// What runs statements inside of others, and bodies, and answers what statements ask.
@@ -101,5 +101,5 @@ where
         engine.old engine.new port.old port.new }
     ensures keeps { OnOk result (kept engine.new ≡ kept engine.old) }
 {
-    (runner.run)(runner.room, engine, port, Task::Ask(at, what))
+    (runner.run)(runner.room, engine, port, Task::Ask(&at, what))
 }

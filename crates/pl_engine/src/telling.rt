@@ -1,8 +1,9 @@
 //! What is printed and committed.
 
-ghost use Rattle.std.specs.Prelude.{◌≡◌, OnOk};
+ghost use Rattle.std.specs.Prelude.{◌≡◌, [], IsErrOf, OnOk};
 ghost use Rattle.pl_engine.specs.Answers.{Answers};
 ghost use Rattle.pl_engine.specs.Engines.{kept, world};
+ghost use Rattle.pl_engine.specs.declared.stop.Stop.TheVariants.{Memory};
 ghost use Rattle.pl_world.specs.Raising.{printed};
 ghost use Rattle.pl_world.specs.Transactions.{committed};
 
@@ -24,12 +25,14 @@ pub fn say<P: Port>(engine: &Engine, port: &mut P, lines: &[u8]) -> Result<Outco
     }
 }
 
-/// Commits what was done since the last commit. `Disk` comes where storing failed.
+/// Commits what was done since the last commit. `Disk` comes where storing failed, and `Memory`
+/// before anything is stored.
 pub fn commit<P: Port>(engine: &mut Engine, port: &mut P) -> Result<Outcome, Stop>
     requires unmarked { (world engine.old).depth ≡ 0 }
     requires fits { P.fits (world engine.old).last port.old }
     ensures is { Answers P.Port (committed (world engine.old)) result engine.old engine.new
         port.old port.new }
+    ensures memory { IsErrOf result Memory → P.took (world engine.old).last [] port.old port.new }
     ensures keeps { OnOk result (kept engine.new ≡ kept engine.old) }
 {
     match port.commit(&engine.journal) {

@@ -22,3 +22,6 @@ returns-in-Err-Device-clause-is g c =
 pub returns-in-Err-Memory-clause-is : goal.returns-in-Err-Memory-clause-is
 returns-in-Err-Memory-clause-is g c =
     untaken (committed (world c.args.engine.now)) c.args.engine.now (c.in-Err-Memory.ensures.memory (wanted c.in-Err-Memory.field-0-is))
+
+pub returns-in-Err-Memory-clause-memory : goal.returns-in-Err-Memory-clause-memory
+returns-in-Err-Memory-clause-memory g c = λ is. c.in-Err-Memory.ensures.memory (wanted c.in-Err-Memory.field-0-is)

@@ -1,0 +1,25 @@
+use Rattle.std.proofs.Common.{Some, subst, sym}
+use Rattle.std.specs.Prelude.{IsSome}
+use Rattle.pl_calling.proofs.Written.{sound_written, wrote_in}
+use Rattle.pl_calling.proofs.calling.Calling.replace.Goals as goal
+use Rattle.pl_calling.specs.Standing.{Standing, standing}
+use Rattle.pl_calling.specs.Writing.{WroteIn}
+use Rattle.pl_engine.specs.Engines.{kept, world}
+use Rattle.pl_journal.specs.Writing.{written}
+use Rattle.pl_tables.specs.Named.{row_named}
+
+pub replace-requires : goal.replace-requires
+replace-requires g c = record { there = subst (λ (s : Standing). IsSome (row_named c.args.table c.args.id s.world.database.tables)) (sym c.self.view_is) c.requires.there }
+
+pub invariant_of-self : goal.invariant_of-self
+invariant_of-self g c =
+    let old = world c.self.inside.engine in
+    sound_written g.B.Start.begin old (world c.replace.new.self) g.B.Start.stays (kept c.self.inside.engine) (kept c.replace.new.self) (g.R.BodyRunner.runs c.self.inside.bodies.now c.self.inside.room) c.self.inside.is_lost c.self.inside.room c.self.invariant c.replace.ensures.keeps
+    (written old.database.objects c.args.table (Some c.args.id) c.args.row old.database.tables) c.replace.result c.replace.ensures.is
+
+pub returns : goal.returns
+returns g c =
+    let old = world c.self.inside.engine in
+    let behind = standing g.B.Start.begin (world c.replace.new.self) c.self.inside.held c.self.inside.failure c.self.inside.at c.self.inside.room in
+    subst (λ (s : Standing). WroteIn (written s.world.database.objects c.args.table (Some c.args.id) c.args.row s.world.database.tables) c.replace.result s behind) c.self.view_is
+    (wrote_in g.B.Start.begin old (world c.replace.new.self) c.self.inside.held c.self.inside.failure c.self.inside.at c.self.inside.room (written old.database.objects c.args.table (Some c.args.id) c.args.row old.database.tables) c.replace.result c.replace.ensures.is)
