@@ -1,5 +1,5 @@
--- Functions are made, replaced and dropped. A function's body is read when it is made: one that is no
--- body, or that breaks a rule, is refused then. Calls don't run yet.
+-- Functions are made, called, replaced and dropped. A function's body is read when it is made: one that
+-- is no body, or that breaks a rule, is refused then.
 
 CREATE FUNCTION fee(amount integer) RETURNS integer LANGUAGE plpgsql AS $$
 BEGIN
@@ -21,6 +21,8 @@ BEGIN
     RETURN amount * percent / 100;
 END
 $$;
+
+SELECT fee(900), fee(-50) + 1;
 
 -- One that does may not give another type, nor call its parameters otherwise.
 CREATE OR REPLACE FUNCTION fee(amount integer) RETURNS text LANGUAGE plpgsql AS $$ BEGIN RETURN 'none'; END $$;
@@ -64,6 +66,8 @@ BEGIN
     RETURN taken;
 END
 $$;
+
+SELECT steps(5);
 
 DROP FUNCTION steps;
 DROP FUNCTION IF EXISTS steps;

@@ -43,8 +43,9 @@ class Place:
 
 
 class BodyMaker:
-    def __init__(self, seed):
+    def __init__(self, seed, has_sessions=True):
         self.random, self.functions, self.procedures, self.counters = random.Random(seed), [], [], 0
+        self.has_sessions = has_sessions
 
     def choose(self, *items):
         return self.random.choice(items)
@@ -281,16 +282,18 @@ class BodyMaker:
     def script(self):
         made = []
         for at in self.some(0, 3):
-            kind = self.choose("function", "function", "procedure")
+            kind = self.choose("function", "function", "procedure") if self.has_sessions else "function"
             made.append(self.routine(f"{kind[0]}{at}", kind, 2))
             (self.functions if kind == "function" else self.procedures).append(made[-1])
         made.append(tree.Insert("t", tuple(Number(self.random.randint(0, 4)) for _ in range(3))))
         made.append(tree.Insert("u", tuple(map(Number, self.random.sample(range(5), 2)))))
         made += [self.command() for _ in self.some(1, 5)]
-        return [*made, tree.Control(self.choose("COMMIT", "ROLLBACK")), tree.Rows("t"), tree.Rows("u")]
+        if self.has_sessions:
+            made.append(tree.Control(self.choose("COMMIT", "ROLLBACK")))
+        return [*made, tree.Rows("t"), tree.Rows("u")]
 
     def command(self):
-        if self.chance(0.6):
+        if not self.has_sessions or self.chance(0.6):
             return self.routine("", "do", 4)
         if self.procedures and self.chance(0.2):
             procedure = self.choose(*self.procedures)

@@ -11,13 +11,14 @@ use Rattle.pl_keeper.specs.Batches.{Damage}
 use Rattle.pl_keeper.specs.Store.{Has, KeepsFile}
 use Rattle.pl_meaning.specs.Covered.{AlongFrom}
 use Rattle.pl_undo.specs.Database.{Database}
-use Rattle.pl_meaning.specs.Meaning.{AreOfFirst, IsTrace}
 use Rattle.pl_meaning.specs.Opening.{opens}
 use Rattle.pl_meaning.specs.Trace.{Event, Said, is_failed, text as text_of}
-use Rattle.pl_session.specs.Starts.{StartPair}
+use Rattle.pl_session.specs.Starts.{IsStarted, StartPair}
+use Rattle.pl_session.specs.Traces.{AreFront, IsTrace}
+use Rattle.pl_world.specs.Sessions.{Session, new_session}
 use Rattle.pl_session.specs.Short.{IsShort, StaysShort}
 use Rattle.pl_session.specs.Spare.{KeepsArea}
-use Rattle.pl_session.specs.State.{IsReady}
+use Rattle.pl_session.specs.State.{IsReady, database_in, session_in}
 use Rattle.pl_session.specs.declared.state.SessionState.{SessionState}
 use Rattle.pl_session.specs.Endings.{Done, PrintsWhole}
 use Rattle.pl_session.specs.Lent.{area_kept, area_still}
@@ -39,26 +40,30 @@ one_first P a b one two = ⊎_elim (λ below. absurd (two.1 a below one.0)) (λ 
     order : (m n : ℕ) → (m < n) ⊎ ((n < m) ⊎ (m ≡ n))
     order m n = grind arith
 
-pub refused_due : (script : List ℕ) (stops : Bool) (db : Database) (events : List Event) (at : ℕ) → IsRefusedAt script at → IsDue script stops db events → Said (refusal_line at) ∷ [] ≡ events
-refused_due script stops db events at refused (inl due) = ap (λ (k : ℕ). Said (refusal_line k) ∷ []) (one_first (Spoils script) at due.0 refused due.1) ∙ sym due.2
-refused_due script stops db events at refused (inr due) = absurd (due.0 at refused.0)
+pub refused_due : (script : List ℕ) (steps : ℕ) (stops : Bool) (db : Database) (events : List Event) (at : ℕ) → IsRefusedAt script at → IsDue script steps stops db events → Said (refusal_line at) ∷ [] ≡ events
+refused_due script steps stops db events at refused (inl due) = ap (λ (k : ℕ). Said (refusal_line k) ∷ []) (one_first (Spoils script) at due.0 refused due.1) ∙ sym due.2
+refused_due script steps stops db events at refused (inr due) = absurd (due.0 at refused.0)
 
-pub script_due : (script : List ℕ) (stops : Bool) (db : Database) (events : List Event) → IsScript script → IsDue script stops db events → IsTrace (script_text script) stops db events
-script_due script stops db events is (inl due) = absurd (is due.0 due.1.0)
-script_due script stops db events is (inr due) = due.1
+pub script_due : (script : List ℕ) (steps : ℕ) (stops : Bool) (db : Database) (events : List Event) → IsScript script → IsDue script steps stops db events → IsTrace (script_text script) steps stops (new_session db) events
+script_due script steps stops db events is (inl due) = absurd (is due.0 due.1.0)
+script_due script steps stops db events is (inr due) = due.1
+
+-- the session that was begun with the database that the files opened to
+pub begun : (a b : View) (state : SessionState) (db : Database) → IsStarted a b state → database_in state ≡ db → session_in state ≡ new_session db
+begun a b state db started same = started.begins ∙ ap (λ (d : Database). new_session d) same
 
 pub one_asked : (o : Option Asked) (a b : Asked) → o ≡ Some a → o ≡ Some b → a ≡ b
 one_asked o a b one two = cc
 
 -- the trace of what the run begins with, of the line and the script that were read
-pub trace_of : (words : List Word) (view : View) (left : Option (List ℕ)) (db found : Database) (events : List Event) (over : Over words view left db events)
-    (line : Asked) (text : List ℕ) → asked words ≡ Some line → found ≡ db → IsScript over.script → text ≡ script_text over.script → IsTrace text line.stops_on_error found events
-trace_of words view left db found events over line text asks same is_script is_text =
+pub trace_of : (words : List Word) (view : View) (left : Option (List ℕ)) (db : Database) (s : Session) (events : List Event) (over : Over words view left db events)
+    (line : Asked) (text : List ℕ) → asked words ≡ Some line → s ≡ new_session db → IsScript over.script → text ≡ script_text over.script → IsTrace text line.steps line.stops_on_error s events
+trace_of words view left db s events over line text asks same is_script is_text =
     let one : over.line ≡ line = one_asked (asked words) over.line line over.asks asks in
-    subst (λ (t : List ℕ). IsTrace t line.stops_on_error found events) (sym is_text)
-    (subst (λ (d : Database). IsTrace (script_text over.script) line.stops_on_error d events) (sym same)
-    (subst (λ (l : Asked). IsTrace (script_text over.script) l.stops_on_error db events) one
-    (script_due over.script over.line.stops_on_error db events is_script over.due)))
+    subst (λ (t : List ℕ). IsTrace t line.steps line.stops_on_error s events) (sym is_text)
+    (subst (λ (t : Session). IsTrace (script_text over.script) line.steps line.stops_on_error t events) (sym same)
+    (subst (λ (l : Asked). IsTrace (script_text over.script) l.steps l.stops_on_error (new_session db) events) one
+    (script_due over.script over.line.steps over.line.stops_on_error db events is_script over.due)))
 
 -- ---- counts
 
@@ -215,35 +220,35 @@ attached_start a b d name result call keeps run = runs_on (with_attached name a)
 
 -- ---- why a run ends, by why its script does
 
-pub cause_of : (e : Ending) (words : List Word) (a b d : View) (left : Option (List ℕ)) (before after : ℕ) (text : List ℕ) (line : Asked) (found : Database)
-    → ScriptEnd e b d text line.stops_on_error found → asked words ≡ Some line → IsStored a → IsWhole left
-    → ((db : Database) (events : List Event) (over : Over words a left db events) → IsTrace text line.stops_on_error found events)
+pub cause_of : (e : Ending) (words : List Word) (a b d : View) (left : Option (List ℕ)) (before after : ℕ) (text : List ℕ) (line : Asked) (s : Session)
+    → ScriptEnd e b d text line.steps line.stops_on_error s → asked words ≡ Some line → IsStored a → IsWhole left
+    → ((db : Database) (events : List Event) (over : Over words a left db events) → IsTrace text line.steps line.stops_on_error s events)
     → a.disk_faults ≤ b.disk_faults → b.disk_faults ≤ d.disk_faults → a.say_faults ≤ b.say_faults → b.say_faults ≤ d.say_faults
     → HasCause e words a d left before after
-cause_of Whole words a b d left before after text line found ends asks stored whole due d1 d2 s1 s2 =
+cause_of Whole words a b d left before after text line s ends asks stored whole due d1 d2 s1 s2 =
     ((line, asks), stored, whole, λ db events over. ap (λ (l : Asked). l.stops_on_error && is_failed events) (one_asked (asked words) over.line line over.asks asks) ∙ (ends events (due db events over)).1)
-cause_of AtError words a b d left before after text line found ends asks stored whole due d1 d2 s1 s2 =
+cause_of AtError words a b d left before after text line s ends asks stored whole due d1 d2 s1 s2 =
     ((line, asks), stored, whole, λ db events over. ap (λ (l : Asked). l.stops_on_error && is_failed events) (one_asked (asked words) over.line line over.asks asks) ∙ (ends events (due db events over)).1)
-cause_of Disk words a b d left before after text line found ends asks stored whole due d1 d2 s1 s2 = ((line, asks), rises_on _ _ _ d1 d2 ends.0)
-cause_of Say words a b d left before after text line found ends asks stored whole due d1 d2 s1 s2 = rises_on _ _ _ s1 s2 ends
-cause_of Memory words a b d left before after text line found ends asks stored whole due d1 d2 s1 s2 = inl (line, asks)
-cause_of Usage words a b d left before after text line found ends asks stored whole due d1 d2 s1 s2 = absurd ends
-cause_of Source words a b d left before after text line found ends asks stored whole due d1 d2 s1 s2 = absurd ends
-cause_of Damaged words a b d left before after text line found ends asks stored whole due d1 d2 s1 s2 = absurd ends
-cause_of Refused words a b d left before after text line found ends asks stored whole due d1 d2 s1 s2 = absurd ends
+cause_of Disk words a b d left before after text line s ends asks stored whole due d1 d2 s1 s2 = ((line, asks), rises_on _ _ _ d1 d2 ends.0)
+cause_of Say words a b d left before after text line s ends asks stored whole due d1 d2 s1 s2 = rises_on _ _ _ s1 s2 ends
+cause_of Memory words a b d left before after text line s ends asks stored whole due d1 d2 s1 s2 = inl (line, asks)
+cause_of Usage words a b d left before after text line s ends asks stored whole due d1 d2 s1 s2 = absurd ends
+cause_of Source words a b d left before after text line s ends asks stored whole due d1 d2 s1 s2 = absurd ends
+cause_of Damaged words a b d left before after text line s ends asks stored whole due d1 d2 s1 s2 = absurd ends
+cause_of Refused words a b d left before after text line s ends asks stored whole due d1 d2 s1 s2 = absurd ends
 
 -- what the script's end says is done, where the run ends with 0 or 3
-pub done_by : (e : Ending) (b d : View) (text : List ℕ) (stops : Bool) (found : Database) (events : List Event) → ScriptEnd e b d text stops found → b.told
-    → (e ≡ Whole) ⊎ ((e ≡ AtError) ⊎ (e ≡ Refused)) → IsTrace text stops found events → Done b d events found
-done_by Whole b d text stops found events ends told is traced = (ends events traced).0 told
-done_by AtError b d text stops found events ends told is traced = (ends events traced).0 told
-done_by Disk b d text stops found events ends told is traced = absurd (⊎_elim (λ one. cc) (λ more. ⊎_elim (λ two. cc) (λ three. cc) more) is)
-done_by Say b d text stops found events ends told is traced = absurd (⊎_elim (λ one. cc) (λ more. ⊎_elim (λ two. cc) (λ three. cc) more) is)
-done_by Memory b d text stops found events ends told is traced = absurd (⊎_elim (λ one. cc) (λ more. ⊎_elim (λ two. cc) (λ three. cc) more) is)
-done_by Usage b d text stops found events ends told is traced = absurd ends
-done_by Source b d text stops found events ends told is traced = absurd ends
-done_by Damaged b d text stops found events ends told is traced = absurd ends
-done_by Refused b d text stops found events ends told is traced = absurd ends
+pub done_by : (e : Ending) (b d : View) (text : List ℕ) (steps : ℕ) (stops : Bool) (s : Session) (events : List Event) → ScriptEnd e b d text steps stops s → b.told
+    → (e ≡ Whole) ⊎ ((e ≡ AtError) ⊎ (e ≡ Refused)) → IsTrace text steps stops s events → Done b d events s.world.database
+done_by Whole b d text steps stops s events ends told is traced = (ends events traced).0 told
+done_by AtError b d text steps stops s events ends told is traced = (ends events traced).0 told
+done_by Disk b d text steps stops s events ends told is traced = absurd (⊎_elim (λ one. cc) (λ more. ⊎_elim (λ two. cc) (λ three. cc) more) is)
+done_by Say b d text steps stops s events ends told is traced = absurd (⊎_elim (λ one. cc) (λ more. ⊎_elim (λ two. cc) (λ three. cc) more) is)
+done_by Memory b d text steps stops s events ends told is traced = absurd (⊎_elim (λ one. cc) (λ more. ⊎_elim (λ two. cc) (λ three. cc) more) is)
+done_by Usage b d text steps stops s events ends told is traced = absurd ends
+done_by Source b d text steps stops s events ends told is traced = absurd ends
+done_by Damaged b d text steps stops s events ends told is traced = absurd ends
+done_by Refused b d text steps stops s events ends told is traced = absurd ends
 
 -- ---- a store that is kept short
 
@@ -261,48 +266,44 @@ not_run e (inr is) (inl other) = cc
 not_run e (inr is) (inr (inl other)) = cc
 not_run e (inr is) (inr (inr other)) = cc
 
-pub was_run : (e : Ending) (b d : View) (text : List ℕ) (stops : Bool) (found : Database) → ScriptEnd e b d text stops found → (e ≡ Source) ⊎ (e ≡ Refused) → ⊥
-was_run Whole b d text stops found ends is = ⊎_elim (λ h. cc) (λ h. cc) is
-was_run AtError b d text stops found ends is = ⊎_elim (λ h. cc) (λ h. cc) is
-was_run Disk b d text stops found ends is = ⊎_elim (λ h. cc) (λ h. cc) is
-was_run Say b d text stops found ends is = ⊎_elim (λ h. cc) (λ h. cc) is
-was_run Memory b d text stops found ends is = ⊎_elim (λ h. cc) (λ h. cc) is
-was_run Usage b d text stops found ends is = ends
-was_run Source b d text stops found ends is = ends
-was_run Damaged b d text stops found ends is = ends
-was_run Refused b d text stops found ends is = ends
+pub was_run : (e : Ending) (b d : View) (text : List ℕ) (steps : ℕ) (stops : Bool) (s : Session) → ScriptEnd e b d text steps stops s → (e ≡ Source) ⊎ (e ≡ Refused) → ⊥
+was_run Whole b d text steps stops s ends is = ⊎_elim (λ h. cc) (λ h. cc) is
+was_run AtError b d text steps stops s ends is = ⊎_elim (λ h. cc) (λ h. cc) is
+was_run Disk b d text steps stops s ends is = ⊎_elim (λ h. cc) (λ h. cc) is
+was_run Say b d text steps stops s ends is = ⊎_elim (λ h. cc) (λ h. cc) is
+was_run Memory b d text steps stops s ends is = ⊎_elim (λ h. cc) (λ h. cc) is
+was_run Usage b d text steps stops s ends is = ends
+was_run Source b d text steps stops s ends is = ends
+was_run Damaged b d text steps stops s ends is = ends
+was_run Refused b d text steps stops s ends is = ends
 
 -- ---- what is printed where the disk failed
 
-pub prints_whole : (e : Ending) (b d : View) (script : List ℕ) (stops : Bool) (found : Database) → ScriptEnd e b d script stops found → e ≡ Disk → PrintsWhole b d script stops found
-prints_whole Disk b d script stops found ends is = ends.1
-prints_whole Whole b d script stops found ends is = absurd (cc)
-prints_whole AtError b d script stops found ends is = absurd (cc)
-prints_whole Say b d script stops found ends is = absurd (cc)
-prints_whole Memory b d script stops found ends is = absurd (cc)
-prints_whole Usage b d script stops found ends is = absurd ends
-prints_whole Source b d script stops found ends is = absurd ends
-prints_whole Damaged b d script stops found ends is = absurd ends
-prints_whole Refused b d script stops found ends is = absurd ends
+pub prints_whole : (e : Ending) (b d : View) (script : List ℕ) (steps : ℕ) (stops : Bool) (s : Session) → ScriptEnd e b d script steps stops s → e ≡ Disk → PrintsWhole b d script steps stops s
+prints_whole Disk b d script steps stops s ends is = ends.1
+prints_whole Whole b d script steps stops s ends is = absurd (cc)
+prints_whole AtError b d script steps stops s ends is = absurd (cc)
+prints_whole Say b d script steps stops s ends is = absurd (cc)
+prints_whole Memory b d script steps stops s ends is = absurd (cc)
+prints_whole Usage b d script steps stops s ends is = absurd ends
+prints_whole Source b d script steps stops s ends is = absurd ends
+prints_whole Damaged b d script steps stops s ends is = absurd ends
+prints_whole Refused b d script steps stops s ends is = absurd ends
+
+-- the first of a script's pieces, of the script, the line and the session as they are named above
+pub front_since : (script script' : List ℕ) (line line' : Asked) (s t : Session) (events : List Event) → script ≡ script' → line ≡ line' → s ≡ t → AreFront script line.steps line.stops_on_error s events → AreFront script' line'.steps line'.stops_on_error t events
+front_since script script' line line' s t events same_script same_line same is =
+    subst (λ (x : List ℕ). AreFront x line'.steps line'.stops_on_error t events) same_script
+    (subst (λ (l : Asked). AreFront script l.steps l.stops_on_error t events) same_line (subst (λ (x : Session). AreFront script line.steps line.stops_on_error x events) same is))
 
 -- what is printed behind the opening is all that is
-pub prints_since : (a b d : View) (script script' : List ℕ) (stops stops' : Bool) (found db : Database) → script ≡ script' → stops ≡ stops' → found ≡ db
-    → (a.told → b.printed ≡ a.printed) → (a.told → b.told) → PrintsWhole b d script stops found → PrintsWhole a d script' stops' db
-prints_since a b d script script' stops stops' found db same_script same_stops same printed told whole = (
-  whole.0,
-  subst (λ (s : List ℕ). AreOfFirst s stops' db whole.0) same_script
-      (subst (λ (f : Bool). AreOfFirst script f db whole.0) same_stops (subst (λ (e : Database). AreOfFirst script stops e whole.0) same whole.1)),
-  λ t. whole.2 (told t) ∙ ap (λ (l : List ℕ). l ++ text_of whole.0) (printed t),
-)
+pub prints_since : (a b d : View) (script script' : List ℕ) (line line' : Asked) (s t : Session) → script ≡ script' → line ≡ line' → s ≡ t → (a.told → b.printed ≡ a.printed) → (a.told → b.told)
+    → PrintsWhole b d script line.steps line.stops_on_error s → PrintsWhole a d script' line'.steps line'.stops_on_error t
+prints_since a b d script script' line line' s t same_script same_line same printed told whole =
+    (whole.0, front_since script script' line line' s t whole.0 same_script same_line same whole.1, λ now. whole.2 (told now) ∙ ap (λ (l : List ℕ). l ++ text_of whole.0) (printed now))
 
--- the first of a script's pieces, of the script, the choice and the database as they are named above
-pub first_since : (script script' : List ℕ) (stops stops' : Bool) (found db : Database) (events : List Event) → script ≡ script' → stops ≡ stops' → found ≡ db → AreOfFirst script stops found events → AreOfFirst script' stops' db events
-first_since script script' stops stops' found db events same_script same_stops same is =
-    subst (λ (s : List ℕ). AreOfFirst s stops' db events) same_script
-    (subst (λ (f : Bool). AreOfFirst script f db events) same_stops (subst (λ (e : Database). AreOfFirst script stops e events) same is))
-
-pub none_printed : (a d : View) (script : List ℕ) (stops : Bool) (db : Database) → (a.told → d.printed ≡ a.printed) → PrintsWhole a d script stops db
-none_printed a d script stops db printed = ([], none_yet script stops db, λ told. printed told ∙ sym (append-nil a.printed))
+pub none_printed : (a d : View) (script : List ℕ) (steps : ℕ) (stops : Bool) (s : Session) → (a.told → d.printed ≡ a.printed) → PrintsWhole a d script steps stops s
+none_printed a d script steps stops s printed = ([], none_yet script steps stops s, λ told. printed told ∙ sym (append-nil a.printed))
 
 pub not_disk : (e : Ending) (X : Type 0) → e ≡ Disk → (e ≡ Refused) ⊎ ((e ≡ Say) × X) → ⊥
 not_disk e X is (inl refused) = cc

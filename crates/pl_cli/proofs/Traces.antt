@@ -1,14 +1,25 @@
 -- Each script has a trace, and none of its commands were run at first.
-use Rattle.std.proofs.Common.{List, [], Bool, refl}
+use Rattle.std.proofs.Common.{ℕ, List, [], Bool, inl, refl}
 use Rattle.pl_lex.specs.Characters.{Text}
 use Rattle.pl_meaning.proofs.Lent.{readings_some}
 use Rattle.pl_reading.specs.Computed.{script_readings}
-use Rattle.pl_undo.specs.Database.{Database}
-use Rattle.pl_meaning.specs.Meaning.{AreOfFirst, IsTrace, trace}
 use Rattle.pl_meaning.specs.Trace.{Event}
+use Rattle.pl_session.specs.Traces.{AreFront, IsTrace, told_next, trace}
+use Rattle.pl_world.specs.Scripts.{script as script_events}
+use Rattle.pl_world.specs.Sessions.{Session}
 
-pub some_trace : (script : Text) (stops : Bool) (db : Database) → (events : List Event) × IsTrace script stops db events
-some_trace script stops db = (trace stops (script_readings script) db, (script_readings script, readings_some script, refl))
+pub some_trace : (script : Text) (steps : ℕ) (stops : Bool) (s : Session) → (events : List Event) × IsTrace script steps stops s events
+some_trace script steps stops s = (trace steps stops (script_readings script) s, (script_readings script, readings_some script, refl))
 
-pub none_yet : (script : Text) (stops : Bool) (db : Database) → AreOfFirst script stops db []
-none_yet script stops db = ([], script_readings script, readings_some script, refl)
+pub none_yet : (script : Text) (steps : ℕ) (stops : Bool) (s : Session) → AreFront script steps stops s []
+unfolding script_events
+none_yet script steps stops s = record {
+  first = [];
+  others = script_readings script;
+  read = readings_some script;
+  part = [];
+  left = told_next steps (script_readings script) s;
+  before = refl;
+  are = refl;
+  goes_on = inl refl;
+}

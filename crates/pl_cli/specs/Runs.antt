@@ -4,10 +4,11 @@ use Rattle.pl_base.specs.Image.{Image}
 use Rattle.pl_disk.specs.Disk.{View, IsPrefix, Rises, Untouched}
 use Rattle.pl_keeper.specs.Batches.{Damage}
 use Rattle.pl_undo.specs.Database.{Database}
-use Rattle.pl_meaning.specs.Meaning.{AreOfFirst, IsTrace}
 use Rattle.pl_meaning.specs.Opening.{opens}
 use Rattle.pl_meaning.specs.Trace.{Event, Said, is_failed}
 use Rattle.pl_session.specs.Endings.{Done}
+use Rattle.pl_session.specs.Traces.{AreFront, IsTrace}
+use Rattle.pl_world.specs.Sessions.{new_session}
 use Rattle.pl_cli.specs.Line.{Asked, Word, asked}
 use Rattle.pl_cli.specs.Printed.{refusal_line}
 use Rattle.pl_cli.specs.Script.{IsRefusedAt, IsScript, script_text}
@@ -15,10 +16,10 @@ use Rattle.pl_cli.specs.declared.ending.Ending.{Ending}
 use Rattle.pl_cli.specs.declared.ending.Ending.TheVariants.{Whole, Usage, AtError, Disk, Source, Say, Damaged, Refused, Memory}
 
 -- These events are due of a script: its own, or the one line of a script that is refused.
-abbrev pub IsDue : (script : List ℕ) (stops : Bool) → Database → List Event → Type 0
-IsDue script stops db events =
+abbrev pub IsDue : (script : List ℕ) (steps : ℕ) (stops : Bool) → Database → List Event → Type 0
+IsDue script steps stops db events =
     ((at : ℕ) × IsRefusedAt script at × (events ≡ Said (refusal_line at) ∷ []))
-    ⊎ (IsScript script × IsTrace (script_text script) stops db events)
+    ⊎ (IsScript script × IsTrace (script_text script) steps stops (new_session db) events)
 
 -- What a run begins with: a host that tells its contents, whose files open to this database, a valid line, and a script of which
 -- these events are due.
@@ -30,7 +31,7 @@ pub record Over (words : List Word) (view : View) (left : Option (List ℕ))
   pub asks : asked words ≡ Some line
   pub script : List ℕ
   pub reads : left ≡ Some script
-  pub due : IsDue script line.stops_on_error db events
+  pub due : IsDue script line.steps line.stops_on_error db events
 
 -- ---- why it ends so
 
@@ -79,12 +80,13 @@ pub record NotBegun (old new : View) (db : Database) : Type 0 where
   pub printed : new.printed ≡ old.printed
   pub images : (image : Image) → new.may_leave image → old.may_leave image ⊎ (opens image ≡ Ok db)
 
--- A whole number of the script's commands is done, and nothing of the next one.
+-- A whole number of the script's commands is done, and of the next one some of what it does before
+-- its end.
 abbrev pub IsBetween : {words : List Word} {left : Option (List ℕ)} {db : Database}
     {events : List Event} {old : View} → Over words old left db events → View → Type 0
 IsBetween {db = db} {old = old} over new = NotBegun old new db
-    ⊎ ((first : List Event) × AreOfFirst (script_text over.script) over.line.stops_on_error db first
-    × Done old new first db)
+    ⊎ ((first : List Event) × AreFront (script_text over.script) over.line.steps
+    over.line.stops_on_error (new_session db) first × Done old new first db)
 
 -- The files are left alone, and at each moment a front of this line is printed, which is all that is.
 pub record OnlySays (line : List ℕ) (old new : View) : Type 0 where

@@ -11,7 +11,8 @@ ghost use Rattle.pl_session.specs.Endings.{Done, OfTrace, PrintsWhole, RunsAlong
 ghost use Rattle.pl_session.specs.Short.{IsShort};
 ghost use Rattle.pl_session.specs.Spare.{KeepsArea};
 ghost use Rattle.pl_session.specs.Starts.{HasStartCause, IsStarted, OpensSame, StartPair};
-ghost use Rattle.pl_session.specs.State.{IsReady, database_in};
+ghost use Rattle.pl_session.specs.State.{IsReady, database_in, session_in};
+ghost use Rattle.pl_world.specs.Sessions.{new_session};
 ghost use Rattle.pl_cli.specs.Covers.{CoveredRun};
 ghost use Rattle.pl_cli.specs.Endings.{status_of};
 ghost use Rattle.pl_cli.specs.Line.{asked};
@@ -119,24 +120,25 @@ fn start<H: Host>(alloc: Global, host: &mut H, store: &str) -> Result<SessionSta
     SessionState::start(alloc, host)
 }
 
-// Runs the script over an open store.
+// Runs the script over an open store, each command in so many steps at the most.
 fn run_commands<H: Host>(
     state: &mut SessionState,
     host: &mut H,
     script: &str,
+    steps: u64,
     stops: bool,
 ) -> Ending
     requires ready { IsReady (H.view host.old) state.old }
     ensures continues { Continues (H.view host.old) (H.view host.new) }
-    ensures moments { OfTrace script.now stops (database_in state.old)
+    ensures moments { OfTrace script.now steps stops (session_in state.old)
         (λ events. RunsAlong (H.view host.old) (H.view host.new) events (database_in state.old)) }
-    ensures ended { ScriptEnd result (H.view host.old) (H.view host.new) script.now stops
-        (database_in state.old) }
+    ensures ended { ScriptEnd result (H.view host.old) (H.view host.new) script.now steps stops
+        (session_in state.old) }
     ensures short { (result ≡ end.Whole) ⊎ (result ≡ end.AtError) → (H.view host.old).told
         → (image : Image) → (H.view host.new).may_leave image
         → IsShort image ⊎ (host.new ≡ host.old) }
 {
-    match state.run_script(host, script, stops) {
+    match state.run_script(host, script, steps, stops) {
         Ok(Ended::Whole) => Ending::Whole,
         Ok(Ended::AtError) => Ending::AtError,
         Err(Halt::Stopped(Stop::Disk)) => Ending::Disk,
@@ -197,7 +199,7 @@ pub fn run<H: Host, S: Source>(
     ensures disk { result.ending ≡ end.Disk → (db : Database) (events : List Event)
         → (over : Over (map string_bytes words.now) (H.view host.old) (S.left source.old) db events)
         → PrintsWhole (H.view host.old) (H.view host.new) (script_text over.script)
-        over.line.stops_on_error db }
+        over.line.steps over.line.stops_on_error (new_session db) }
 
     // 5: no command was run.
     ensures source { result.ending ≡ end.Source → (db : Database) → (H.view host.old).told
@@ -213,7 +215,7 @@ pub fn run<H: Host, S: Source>(
         → (damage : Damage) → opens (H.view host.old).seen ≡ Err damage
         → OnlySays (damage_line damage.area damage.at) (H.view host.old) (H.view host.new) }
 
-    // 9: it stopped between two commands.
+    // 9: it stopped between two commands, or within one before its end.
     ensures memory { result.ending ≡ end.Memory → (db : Database) (events : List Event)
         → (over : Over (map string_bytes words.now) (H.view host.old) (S.left source.old) db events)
         → IsBetween over (H.view host.new) }
@@ -249,5 +251,5 @@ pub fn run<H: Host, S: Source>(
         Err(ReadFail::Memory) => return Finish::of(Ending::Memory),
     };
     let text = without_mark(&script);
-    Finish::of(run_commands(&mut state, host, text, line.stops_on_error))
+    Finish::of(run_commands(&mut state, host, text, line.steps, line.stops_on_error))
 }

@@ -9,6 +9,9 @@ use pl_disk::{Area, Host, MemoryHost};
 use pl_session::{Halt, Outcome, SessionState, StartFail, Stop};
 use std::alloc::Global;
 
+/// The steps of a command.
+const STEPS: u64 = 1000;
+
 fn open<H: Host>(alloc: Global, host: &mut H) -> Result<SessionState, StartFail>
     ensures { IfOk result (λ session. IsReady (H.view host.new) session) }
 {
@@ -22,7 +25,7 @@ fn command<H: Host>(session: &mut SessionState, host: &mut H, text: &str) -> Res
     requires { session.old.failed ≡ None → IsReady (H.view host.old) session.old }
     ensures { OnOk result (IsReady (H.view host.new) session.new) }
 {
-    session.run_command(host, text)
+    session.run_command(host, text, STEPS)
 }
 
 fn stop_word(stop: Stop) -> &'static str {

@@ -25,7 +25,7 @@ const MADE: &str = "CREATE TABLE\nINSERT 0 1\n";
 const NAME_OF_64: &str = "SELECT aaaaaaaaaaaaaaaaaaaaaaaaaaaaaaaaaaaaaaaaaaaaaaaaaaaaaaaaaaaaaaaa;";
 
 /// Scripts that end with 0, and what they print.
-const PIECES: [(&str, &str); 28] = [
+const PIECES: [(&str, &str); 29] = [
     // The first bad lexeme comes before all else.
     (NAME_OF_64, TOO_LONG),
     ("SELECT \"\";", SYNTAX),
@@ -42,9 +42,11 @@ const PIECES: [(&str, &str); 28] = [
     ("CREATE TABLE table (c integer);;", SYNTAX),
     // Commands that don't run.
     ("BEGIN", LEFT_OUT),
-    ("DO 'x'", LEFT_OUT),
+    ("SAVEPOINT s", LEFT_OUT),
     ("CREATE TABLE n (c integer REFERENCES m)", LEFT_OUT),
     ("DROP TRIGGER r ON n", LEFT_OUT),
+    // The body of a DO is none.
+    ("DO 'x'", SYNTAX),
     // Commands that run, each with its table first.
     ("CREATE TABLE n (c bigint NOT NULL, t text)", CREATED),
     ("CREATE TABLE IF NOT EXISTS n (c integer)", CREATED),

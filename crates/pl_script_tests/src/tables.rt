@@ -180,9 +180,10 @@ const FAILS: &[u8] = b"CREATE TABLE n (c integer);\nINSERT INTO n VALUES (1), (1
 const NOTICED: &[u8] = b"CREATE TABLE n (c integer);\nCREATE TABLE IF NOT EXISTS n (c text);\n";
 
 #[test]
-fn what_changes_nothing_makes_one_call_and_no_commit(rt: HostRuntime) {
+fn what_changes_nothing_prints_and_makes_no_commit(rt: HostRuntime) {
     let alloc = rt.alloc();
-    // One call attaches, twelve make a store, and CREATE TABLE makes five.
+    // One call attaches, twelve make a store, and CREATE TABLE makes five. A notice is a call of its
+    // own.
     assert_eq!(rt;
         told(alloc, CREATE, &[], 0).text(),
         "0 18 58 CREATE TABLE\n"
@@ -197,7 +198,7 @@ fn what_changes_nothing_makes_one_call_and_no_commit(rt: HostRuntime) {
     );
     assert_eq!(rt;
         told(alloc, NOTICED, &[], 0).text(),
-        "0 19 58 CREATE TABLE\nNOTICE:  duplicate_table\nCREATE TABLE\n"
+        "0 20 58 CREATE TABLE\nNOTICE:  duplicate_table\nCREATE TABLE\n"
     );
 }
 

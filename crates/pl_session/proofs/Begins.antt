@@ -18,15 +18,22 @@ use Rattle.pl_keeper.specs.declared.head.Head.{Head}
 use Rattle.pl_undo.specs.Database.{Database}
 use Rattle.pl_journal.specs.Operation.{empty}
 use Rattle.pl_meaning.specs.Opening.{apply_batches, in_area, opened_by, opens}
+use Rattle.pl_command.specs.Ends.{IsIdle}
+use Rattle.pl_engine.specs.Engines.{world}
+use Rattle.pl_port.proofs.Opens.{opens_by}
+use Rattle.pl_port.specs.Stores.{Stores}
 use Rattle.pl_session.specs.Halts.{start_fail_of}
 use Rattle.pl_session.specs.Lent.{area_kept, area_on, area_untouched, area_wrote}
 use Rattle.pl_session.specs.Spare.{KeepsArea}
 use Rattle.pl_session.specs.Starts.{StartPair, OpensSame, IsStarted, HasStartCause}
-use Rattle.pl_session.specs.State.{database_in, Stores}
+use Rattle.pl_session.specs.State.{database_in}
 use Rattle.pl_session.specs.declared.halt.StartFail.{StartFail}
 use Rattle.pl_session.specs.declared.halt.StartFail.TheVariants.{Disk, Damaged, Memory}
 use Rattle.pl_session.specs.declared.state.SessionState.{SessionState}
-use Rattle.pl_session.proofs.Opens.{opens_by, opens_alike, stores_open}
+use Rattle.pl_session.proofs.Opens.{opens_alike, ready_by}
+use Rattle.pl_world.specs.Sessions.{new_session, new_world, session}
+use Rattle.pl_world.specs.World.{World}
+use Rattle.pl_world.specs.declared.session.Mode.TheVariants as mode
 
 -- the images after a recover are those from before, or have the same batches
 left_by : (a m : View) → IsLawful a → IsLawful m → a.told → Writes a m (Recovering a) → (c : Image) → m.may_leave c → Recovering a c
@@ -131,23 +138,24 @@ keeps_spare a b told writes same used = by_counting (counting a.seen) refl
 pub keeps_spare_on : (area : Area) (a m d : View) → IsLawful a → IsLawful m → m.told → KeepsArea area a m → Looks m d → KeepsArea area a d
 keeps_spare_on area a m d lawful lawful' told first looks = area_on area a m d lawful lawful' first (area_kept area m d (λ p. p ≡ m.printed) (looks.images told) (looks.time told))
 
--- a session over the batches that were read
-pub started : (a m d : View) (reader : Head) (state : SessionState) → a.is_attached → Continues a m → Looks m d → (a.told → Recovered a m reader) → (m.told → Stores d state.keeper (database_in state)) → state.journal.last ≡ state.journal.now → state.failed ≡ None → IsStarted a d state
-started a m d reader state attached on looks recovered stores settled is_open = record {
-  ready = record {
-    is_open = is_open;
-    attached = looks.continues.is_attached (on.is_attached attached);
-    settled = settled;
-    opens_to = λ told c left. stores_open d state.keeper (database_in state) (kept told) c left;
-    store = kept;
-  };
-  opened = λ told. opens_by a.seen state.keeper.area (stores (on.told told)).list (database_in state) (found told) (stores (on.told told)).leads;
+-- a new session over the batches that were read
+pub started : (a m d : View) (reader : Head) (state : SessionState) (now : Database) → a.is_attached → Continues a m → Looks m d → (a.told → Recovered a m reader) → (m.told → Stores d state.keeper now) → world state.engine ≡ new_world now → state.failed ≡ None → IsStarted a d state
+started a m d reader state now attached on looks recovered stores new is_open = record {
+  ready = ready_by d state is_open
+      (subst (λ (w : World). IsIdle w) (sym new) (record { depth = refl; in_block = refl }))
+      (ap (λ (w : World). w.last) new ∙ sym same)
+      (record {
+        attached = looks.continues.is_attached (on.is_attached attached);
+        store = λ told. subst (λ (e : Database). Stores d state.keeper e) (sym same) (stores (looks.continues.told_before told));
+      });
+  begins = ap (λ (w : World). session w mode.Idle []) new ∙ ap (λ (e : Database). new_session e) (sym same);
+  opened = λ told. opens_by a.seen state.keeper.area (stores (on.told told)).list (database_in state) (found told) (subst (λ (e : Database). apply_batches (stores (on.told told)).list empty ≡ Ok e) (sym same) (stores (on.told told)).leads);
   same = λ told. ap batches (looks.images (on.told told)).seen ∙ (recovered told).same;
   synced = λ told. let it = (recovered told).synced in (it.0, it.1, (looks.images (on.told told)).synced ∙ it.2);
 }
   where
-    kept : d.told → Stores d state.keeper (database_in state)
-    kept told = stores (looks.continues.told_before told)
+    same : database_in state ≡ now
+    same = ap (λ (w : World). w.database) new
 
     found : (told : a.told) → batches a.seen ≡ Ok (record { area = state.keeper.area; list = (stores (on.told told)).list })
     found told = sym (recovered told).same ∙ sym (ap batches (looks.images (on.told told)).seen) ∙ (stores (on.told told)).store.has.batches

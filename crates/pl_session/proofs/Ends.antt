@@ -1,93 +1,168 @@
 -- How a step ends.
-use Rattle.std.proofs.Common.{◌≡◌, ℕ, List, [], ◌∷◌, ◌++◌, Bool, true, false, Result, Ok, Err, IsErrAnd, refl, sym, ◌∙◌, ap, subst}
-use Rattle.std.specs.Prelude.{IfErr}
+use Rattle.std.proofs.Common.{◌≡◌, ◌∙◌, ◌++◌, inl, ℕ, List, [], ◌∷◌, Bool, false, None, Some, Option, Result, Ok, Err, IsErrAnd, append_assoc, ap, refl, subst, sym}
+use Rattle.std.specs.Prelude.{IfErr, IfOk, OnOk, is_some}
 use Rattle.std.proofs.lemmas.List.{append-nil}
-use Rattle.pl_disk.specs.Disk.{View, Continues, Keeps}
-use Rattle.pl_disk.specs.Lent.{no_look}
-use Rattle.pl_undo.specs.Database.{Database}
-use Rattle.pl_meaning.specs.Replies.{error_line, notice_line}
-use Rattle.pl_meaning.specs.Trace.{Event, Said, Failed, Committed, is_failed}
-use Rattle.pl_print.specs.Grids.{grid_bytes}
-use Rattle.pl_print.specs.Tags.{tag_bytes}
-use Rattle.pl_session.specs.Replies.{lines_of, event_of}
-use Rattle.pl_session.specs.State.{database_in, Stores, IsReady}
-use Rattle.pl_session.specs.Steps.{StepEnd, StepCause}
-use Rattle.pl_session.specs.declared.halt.Stop.{Stop}
-use Rattle.pl_session.specs.declared.halt.Stop.TheVariants.{Memory}
-use Rattle.pl_session.specs.declared.reply.Reply.{Reply}
-use Rattle.pl_session.specs.declared.reply.Reply.TheVariants as reply
+use Rattle.pl_base.specs.declared.fail.Fail.{Fail}
+use Rattle.pl_base.specs.declared.state.State.{State}
+use Rattle.pl_command.specs.Ends.{as_ran}
+use Rattle.pl_command.specs.Lines.{lines_by, lines_of}
+use Rattle.pl_disk.specs.Disk.{View, Keeps, Says}
+use Rattle.pl_disk.specs.Lent.{from_say, run_weaker}
+use Rattle.pl_disk.specs.declared.device.Failed.{Failed as Fault}
+use Rattle.pl_engine.specs.Engines.{world}
+use Rattle.pl_engine.specs.Texts.{do_bodies}
+use Rattle.pl_engine.specs.declared.stop.Stop.{Stop}
+use Rattle.pl_engine.specs.declared.stop.Stop.TheVariants.{Disk, Say, Memory}
+use Rattle.pl_meaning.proofs.Lent.{last_commit-append, text-append}
+use Rattle.pl_meaning.specs.Covered.{AlongFrom}
+use Rattle.pl_meaning.specs.Trace.{Event, is_failed, last_commit, text}
+use Rattle.pl_port.proofs.Opens.{stores_open}
+use Rattle.pl_port.specs.PortLaws.{along_more, along_on, takes_none}
+use Rattle.pl_port.specs.Ports.{Fits, Takes}
+use Rattle.pl_port.specs.Stores.{AllOpen, RunsAlong}
+use Rattle.pl_reading.specs.declared.reading.Reading.{Reading}
+use Rattle.pl_reading.specs.declared.reading.Reading.TheVariants.{Nothing, Spelled}
+use Rattle.pl_session.proofs.Begins.{rises_since}
+use Rattle.pl_session.proofs.Opens.{fits_still, ready_by, ready_fits}
+use Rattle.pl_session.proofs.Went.{Rests, command_events, failed_is, replies_last, replies_text, told_is}
+use Rattle.pl_session.specs.Endings.{Done}
+use Rattle.pl_session.specs.State.{database_in, session_in, IsReady}
+use Rattle.pl_session.specs.Steps.{DoneBefore, SayCause, StepCause, StepEnd, ran, replies}
+use Rattle.pl_session.specs.Traces.{after, events_by, events_in, is_control, session_by, told_before, waiting}
 use Rattle.pl_session.specs.declared.state.SessionState.{SessionState}
-use Rattle.pl_session.proofs.Opens.{still_ready, stores_open}
-
--- for want of memory nothing was done
-pub idle : (v : View) (why : Stop) → why ≡ Memory → StepCause v v why
-idle v why is = subst (λ (w : Stop). StepCause v v w) (sym is) (record { printed = λ told. refl; images = λ told c left. left })
-
-module _ (a d : View) (before after : SessionState) (line : List ℕ) (ready : IsReady a before) (on : Continues a d)
-    (printed : a.told → d.printed ≡ a.printed ++ line) (open_still : after.failed ≡ before.failed) where
-  text_printed : a.told → d.printed ≡ a.printed ++ (line ++ [])
-  text_printed told = printed told ∙ ap (λ (l : List ℕ). a.printed ++ l) (sym (append-nil line))
-
-  module _ (events : List Event) where
-    -- a command failed
-    pub fails_done : Failed line ∷ [] ≡ events → (a.told → Keeps a d) → after.keeper ≡ before.keeper → after.journal.last ≡ before.journal.last → database_in after ≡ database_in before
-        → StepEnd a d before after events (Ok true)
-    fails_done is keeps keeper last db = subst (λ (es : List Event). StepEnd a d before after es (Ok true)) is
-        (record { ready = still_ready a d before after ready on keeps open_still keeper last db; database = db; printed = text_printed }, refl)
-
-    -- a command was answered, and nothing was changed
-    pub said_done : Said line ∷ [] ≡ events → (a.told → Keeps a d) → after.keeper ≡ before.keeper → after.journal.last ≡ before.journal.last → database_in after ≡ database_in before
-        → StepEnd a d before after events (Ok false)
-    said_done is keeps keeper last db = subst (λ (es : List Event). StepEnd a d before after es (Ok false)) is
-        (record { ready = still_ready a d before after ready on keeps open_still keeper last db; database = db; printed = text_printed }, refl)
-
-    -- a command was committed and answered
-    pub commits_done : (next : Database) → Committed next ∷ Said line ∷ [] ≡ events → (a.told → Stores d after.keeper next) → after.journal.last ≡ next → database_in after ≡ next → StepEnd a d before after events (Ok false)
-    commits_done next is store last db = subst (λ (es : List Event). StepEnd a d before after es (Ok false)) is (
-      record {
-        ready = record {
-          is_open = open_still ∙ ready.is_open;
-          attached = on.is_attached ready.attached;
-          settled = last ∙ sym db;
-          opens_to = λ told c left. stores_open d after.keeper (database_in after) (kept told) c left;
-          store = kept;
-        };
-        database = db;
-        printed = text_printed;
-      },
-      refl,
-    )
-      where
-        kept : d.told → Stores d after.keeper (database_in after)
-        kept told = subst (λ (e : Database). Stores d after.keeper e) (sym db) (store (on.told_before told))
-
--- a reply without a change
-pub answer_done : (a d : View) (before after : SessionState) (r : Reply) → IsReady a before → Continues a d → (a.told → d.printed ≡ a.printed ++ lines_of r) → after.failed ≡ before.failed
-    → (events : List Event) → event_of r ∷ [] ≡ events → (a.told → Keeps a d) → after.keeper ≡ before.keeper → after.journal.last ≡ before.journal.last → database_in after ≡ database_in before
-    → (failed : Bool) → failed ≡ is_failed (event_of r ∷ []) → StepEnd a d before after events (Ok failed)
-answer_done a d before after r ready on printed still events is keeps keeper last db failed tells =
-    subst (λ (b : Bool). StepEnd a d before after events (Ok b)) (sym tells) (by_reply r printed is)
-  where
-    by_reply : (r : Reply) → (a.told → d.printed ≡ a.printed ++ lines_of r) → event_of r ∷ [] ≡ events → StepEnd a d before after events (Ok (is_failed (event_of r ∷ [])))
-    by_reply (reply.Done tag) printed is = said_done a d before after (tag_bytes tag) ready on printed still events is keeps keeper last db
-    by_reply (reply.Noticed state tag) printed is = said_done a d before after (notice_line state ++ tag_bytes tag) ready on printed still events is keeps keeper last db
-    by_reply (reply.Rows grid) printed is = said_done a d before after (grid_bytes grid) ready on printed still events is keeps keeper last db
-    by_reply (reply.Returned grid tag) printed is = said_done a d before after (grid_bytes grid ++ tag_bytes tag) ready on printed still events is keeps keeper last db
-    by_reply (reply.Fails state) printed is = fails_done a d before after (error_line state) ready on printed still events is keeps keeper last db
-
--- nothing was committed and nothing is to be answered
-pub nothing_left : (v : View) (before after : SessionState) → IsReady v before → after.failed ≡ before.failed → after.keeper ≡ before.keeper → after.journal.last ≡ before.journal.last → database_in after ≡ database_in before
-    → (events : List Event) → events ≡ [] → StepEnd v v before after events (Ok false)
-nothing_left v before after ready still keeper last db events none = subst (λ (es : List Event). StepEnd v v before after es (Ok false)) (sym none) (
-  record {
-    ready = still_ready v v before after ready (no_look v).continues (no_look v).images still keeper last db;
-    database = db;
-    printed = λ told. sym (append-nil v.printed);
-  },
-  refl,
-)
+use Rattle.pl_tree.specs.declared.command.Command.{Command}
+use Rattle.pl_undo.specs.Database.{Database}
+use Rattle.pl_world.specs.Errors.{failure}
+use Rattle.pl_world.specs.Laws.{end_of, events}
+use Rattle.pl_world.specs.Scripts.{events_of, outward, piece_went, reply_event, session_of}
+use Rattle.pl_world.specs.Sessions.{Went, alone, failed as failing, refused, top, went}
+use Rattle.pl_world.specs.World.{Raised}
+use Rattle.pl_world.specs.declared.session.Reply.{Reply}
 
 -- an error that is passed on
 pub if_err : {T E : Type 0} (P : E → Type 0) (r : Result T E) (e : E) → IsErrAnd r (λ x. x ≡ e) → P e → IfErr r P
 if_err P (Ok x) e is holds = tt
 if_err P (Err x) e is holds = subst P (sym is) holds
+
+-- ---- nothing is done
+
+-- nothing of a script is done, and a crash leaves what it would have
+pub none_done : (v : View) (state : SessionState) → IsReady v state → v.told → Done v v [] (database_in state)
+none_done v state ready told = record { printed = sym (append-nil v.printed); opens_to = λ c left. ready.opens_to told c left }
+
+pub idle : (v : View) (state : SessionState) (told : List Event) → IsReady v state → StepCause v v told (database_in state) Memory
+idle v state told ready = ([], (told, refl), λ t. none_done v state ready t)
+
+-- a piece without a command
+pub nothing_left : (v : View) (state : SessionState) (steps : ℕ) (reading : Reading) → reading ≡ Nothing → IsReady v state → StepEnd v v state state steps reading (Ok false)
+nothing_left v state steps reading is ready = subst (λ (r : Reading). StepEnd v v state state steps r (Ok false)) (sym is)
+    (record { ready = ready; database = refl; printed = λ told. sym (append-nil v.printed) }, refl, refl)
+
+-- ---- a piece that is answered
+
+module _ (a b d : View) (before state : SessionState) (steps : ℕ) (reading : Reading) (w : Went) (answer : Reply) (ready : IsReady a before)
+    (goes : piece_went do_bodies steps (waiting reading) (session_in before) ≡ Some w) (done : DoneBefore w answer before.engine state.engine a b before.keeper state.keeper) where
+  abbrev db : Database
+  db = database_in before
+
+  abbrev es : List Event
+  es = outward done.events
+
+  events_are : events_in steps reading (session_in before) ≡ es ++ replies answer
+  events_are = ap events_by goes ∙ ap events_of done.gives
+
+  session_is : session_in state ≡ after steps reading (session_in before)
+  session_is = sym (ap (λ (o : Option Went). session_by o (session_in before)) goes ∙ ap session_of done.gives)
+
+  takes : Takes es db a b before.keeper state.keeper
+  takes = subst (λ (e : Database). Takes es e a b before.keeper state.keeper) ready.settled done.takes
+
+  fits : Fits b state.keeper (last_commit es db)
+  fits = takes.store (ready_fits a before ready)
+
+  all_open : AllOpen b (last_commit es db)
+  all_open told c left = stores_open b state.keeper (last_commit es db) (fits.store told) c left
+
+  module _ (says : (e : Database) → AllOpen b e → RunsAlong b d (replies answer) e) where
+    said : RunsAlong b d (replies answer) (last_commit es db)
+    said = says (last_commit es db) all_open
+
+    pub answered_moments : RunsAlong a d (events_in steps reading (session_in before)) db
+    answered_moments = subst (λ (xs : List Event). RunsAlong a d xs db) (sym events_are) (along_on a b d es (replies answer) db takes.printed takes.moments said)
+
+    database_now : Rests (world state.engine) → database_in state ≡ last_commit es db
+    database_now rests = sym rests.0 ∙ done.last ∙ ap (λ (e : Database). last_commit es e) ready.settled
+
+    answered : (failed : Bool) → state.failed ≡ None → Rests (world state.engine) → (b.told → Keeps b d) → (b.told → d.printed ≡ b.printed ++ lines_of answer) → failed ≡ is_failed (replies answer)
+        → StepEnd a d before state steps reading (Ok failed)
+    answered failed is_open rests keeps printed is = (
+      record {
+        ready = ready_by d state is_open rests.1 rests.0
+            (fits_still b d state.keeper (database_in state) said.continues keeps (subst (λ (e : Database). Fits b state.keeper e) (sym (database_now rests)) fits));
+        database = database_now rests ∙ sym (replies_last answer (last_commit es db)) ∙ sym (last_commit-append es (replies answer) db) ∙ ap (λ (xs : List Event). last_commit xs db) (sym events_are);
+        printed = λ told. printed (takes.moments.continues.told told) ∙ ap (λ (l : List ℕ). l ++ lines_of answer) (takes.printed told) ∙ append_assoc a.printed (text es) (lines_of answer)
+            ∙ ap (λ (l : List ℕ). a.printed ++ l) (ap (λ (l : List ℕ). text es ++ l) (sym (replies_text answer)) ∙ sym (text-append es (replies answer)) ∙ ap text (sym events_are));
+      },
+      session_is,
+      is ∙ sym (failed_is done.events answer) ∙ ap is_failed (sym events_are),
+    )
+
+    unsaid : (why : Stop) → SayCause b d why → StepEnd a d before state steps reading (Err why)
+    unsaid Disk cause = absurd cause
+    unsaid Say cause = rises_since a.say_faults b.say_faults d.say_faults takes.moments.continues.say_faults said.continues.say_faults cause
+    unsaid Memory cause = absurd cause
+
+    -- its reply is printed, or isn't
+    pub answered_end : (r : Result Bool Stop) → state.failed ≡ None → Rests (world state.engine) → (b.told → Keeps b d) → (b.told → OnOk r (d.printed ≡ b.printed ++ lines_of answer))
+        → IfOk r (λ failed. failed ≡ is_failed (replies answer)) → IfErr r (SayCause b d) → StepEnd a d before state steps reading r
+    answered_end (Ok failed) is_open rests keeps printed is cause = answered failed is_open rests keeps printed is
+    answered_end (Err why) is_open rests keeps printed is cause = unsaid why cause
+
+-- ---- a piece that isn't answered
+
+-- for want of memory it isn't refused
+pub unrefused : (v : View) (state : SessionState) (steps : ℕ) (reading : Reading) (r : Result Bool Stop) → IsErrAnd r (λ x. x ≡ Memory) → IsReady v state → StepEnd v v state state steps reading r
+unrefused v state steps reading (Ok failed) is ready = absurd is
+unrefused v state steps reading (Err why) is ready =
+    subst (λ (x : Stop). StepCause v v (told_before steps reading (session_in state)) (database_in state) x) (sym is) (idle v state (told_before steps reading (session_in state)) ready)
+
+-- a refusal does nothing
+pub refusal : (v : View) (state : SessionState) (code : State) (answer : Reply) → answer ≡ failing (failure code top (world state.engine)) → DoneBefore (refused code (session_in state)) answer state.engine state.engine v v state.keeper state.keeper
+refusal v state code answer is = let f = failure code top (world state.engine) in record {
+  events = Raised f ∷ [];
+  gives = ap (λ (x : Reply). went (session_in state) x (Raised f ∷ [])) (sym is);
+  takes = takes_none (world state.engine).last v state.keeper;
+  last = refl;
+}
+
+module _ (a b : View) (before : SessionState) (steps : ℕ) (c : Command) (alone_is : is_control c ≡ false) (ready : IsReady a before) where
+  pub unanswered_moments : RunsAlong a b (outward (events (as_ran (alone (ran steps c (world before.engine)))))) (world before.engine).last → RunsAlong a b (events_in steps (Spelled c) (session_in before)) (database_in before)
+  unanswered_moments run =
+      let all = as_ran (alone (ran steps c (world before.engine))) in
+      subst (λ (es : List Event). RunsAlong a b es (database_in before)) (sym (command_events c steps (world before.engine) alone_is))
+      (along_more a b (outward (events all)) (replies (end_of all)) (database_in before) (subst (λ (e : Database). RunsAlong a b (outward (events all)) e) ready.settled run))
+
+  pub unanswered : (state : SessionState) (why : Stop) (r : Result Bool Stop) → IsErrAnd r (λ x. x ≡ why) → StepCause a b (outward (events (ran steps c (world before.engine)))) (world before.engine).last why → StepEnd a b before state steps (Spelled c) r
+  unanswered state why (Ok failed) is cause = absurd is
+  unanswered state why (Err x) is cause =
+      let told = outward (events (ran steps c (world before.engine))) in
+      subst (λ (es : List Event). StepCause a b es (database_in before) x) (sym (told_is c steps (world before.engine) alone_is))
+      (subst (λ (e : Database). StepCause a b told e x) ready.settled (subst (λ (y : Stop). StepCause a b told (world before.engine).last y) (sym is) cause))
+
+-- ---- a reply is printed
+
+pub reply_along : {T : Type 0} (a d : View) (answer : Reply) (db : Database) (result : Result T Fault) → AllOpen a db → Says (lines_of answer) a d result → RunsAlong a d (replies answer) db
+reply_along {T} a d answer db result all_open says = by_fail answer.fail says
+  where
+    by_fail : (fail : Option Fail) → Says (lines_by fail answer) a d result → RunsAlong a d (reply_event fail answer ∷ []) db
+    by_fail (Some f) says = run_weaker a d _ (AlongFrom a.printed (reply_event (Some f) answer ∷ []) db) (from_say (lines_by (Some f) answer) a d result says)
+        (λ told p c is. (is.0.0, is.0.2, inl (is.0.1, all_open told c is.1)))
+    by_fail None says = run_weaker a d _ (AlongFrom a.printed (reply_event None answer ∷ []) db) (from_say (lines_by None answer) a d result says)
+        (λ told p c is. (is.0.0, is.0.2, inl (is.0.1, all_open told c is.1)))
+
+pub reply_failed : (answer : Reply) → is_some answer.fail ≡ is_failed (replies answer)
+reply_failed answer = by_fail answer.fail
+  where
+    by_fail : (fail : Option Fail) → is_some fail ≡ is_failed (reply_event fail answer ∷ [])
+    by_fail (Some f) = refl
+    by_fail None = refl

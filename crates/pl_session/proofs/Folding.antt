@@ -18,7 +18,8 @@ use Rattle.pl_session.specs.Halts.{start_fail_of}
 use Rattle.pl_session.specs.Starts.{HasStartCause}
 use Rattle.pl_session.specs.Steps.{Reaches}
 use Rattle.pl_session.specs.declared.halt.StartFail.{StartFail}
-use Rattle.pl_session.proofs.Opens.{apply_batches-stopped, leads_on, stops_at}
+use Rattle.pl_port.proofs.Opens.{leads_on}
+use Rattle.pl_session.proofs.Opens.{apply_batches-stopped, stops_at}
 use Rattle.pl_session.proofs.Begins.{form_damaged, none_applies, rises_since}
 
 -- one batch more: it applies, it doesn't, or one before it didn't

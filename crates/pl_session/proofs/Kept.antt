@@ -1,5 +1,5 @@
 -- A store that is kept short.
-use Rattle.std.proofs.Common.{◌≡◌, ◌<◌, ◌-◌, ◌^◌, ◌&&◌, inl, inr, ⊎_elim, ℕ, ◌+◌, ◌*◌, List, [], ◌∷◌, ◌++◌, cond, nat_lt, Bool, true, false, None, Some, Result, Ok, Err, IsErrAnd, refl, sym, ◌∙◌, ap, subst, arith}
+use Rattle.std.proofs.Common.{◌≡◌, ◌<◌, ◌≤◌, ◌-◌, ◌^◌, ◌&&◌, inl, inr, ⊎_elim, ℕ, ◌+◌, ◌*◌, List, [], ◌∷◌, ◌++◌, cond, nat_lt, Bool, true, false, None, Some, Result, Ok, Err, IsErrAnd, refl, sym, ◌∙◌, ap, subst, arith}
 use Rattle.std.proofs.lemmas.Bool.Decides.{nat_tests}
 use Rattle.std.proofs.lemmas.List.{append-nil}
 use Rattle.pl_base.specs.Image.{Image, other}
@@ -12,16 +12,24 @@ use Rattle.pl_journal.specs.Operation.{apply_payload, empty}
 use Rattle.pl_meaning.specs.Covered.{AlongFrom}
 use Rattle.pl_undo.specs.Database.{Database}
 use Rattle.pl_meaning.specs.Opening.{opens}
-use Rattle.pl_meaning.specs.Trace.{Event, last_commit, text}
-use Rattle.pl_session.specs.Endings.{GoesOn, RunsAlong}
-use Rattle.pl_session.specs.State.{database_in, Stores}
-use Rattle.pl_session.specs.Steps.{KeepCause, OpensTo, PieceCause, PieceEnd, StepCause}
-use Rattle.pl_session.specs.declared.halt.Stop.{Stop}
-use Rattle.pl_session.specs.declared.halt.Stop.TheVariants.{Disk, Say, Memory}
+use Rattle.pl_meaning.specs.Trace.{Event, is_failed, last_commit, text}
+use Rattle.pl_command.specs.Ends.{IsIdle}
+use Rattle.pl_engine.specs.Engines.{world}
+use Rattle.pl_engine.specs.declared.engine.Engine.{Engine}
+use Rattle.pl_engine.specs.declared.stop.Stop.{Stop}
+use Rattle.pl_engine.specs.declared.stop.Stop.TheVariants.{Disk, Say, Memory}
+use Rattle.pl_port.proofs.Opens.{leads_on, opens_by, spelled_by, stores_open}
+use Rattle.pl_port.specs.PortLaws.{along_on}
+use Rattle.pl_port.specs.Stores.{Stores}
+use Rattle.pl_reading.specs.declared.reading.Reading.{Reading}
+use Rattle.pl_session.specs.Endings.{Done, GoesOn, RunsAlong}
+use Rattle.pl_session.specs.State.{database_in, session_in}
+use Rattle.pl_session.specs.Steps.{KeepCause, OpensTo, PieceEnd, StepEnd}
+use Rattle.pl_session.specs.Traces.{after, events_in, told_before}
 use Rattle.pl_session.specs.declared.state.SessionState.{SessionState}
+use Rattle.pl_world.specs.Sessions.{session}
+use Rattle.pl_world.specs.declared.session.Mode.TheVariants as mode
 use Rattle.pl_session.proofs.Begins.{rises_since}
-use Rattle.pl_session.proofs.Opens.{leads_on, opens_by, spelled_by, stores_open}
-use Rattle.pl_session.proofs.Says.{along_on}
 
 -- ---- the whole database is written anew
 
@@ -74,11 +82,20 @@ has_next head is = by_test (nat_lt head.generation (2 ^ 64 - 1)) refl is
 as_ok : (a b : Database) → a ≡ b → (let r : Result Database Damage = Ok a in r) ≡ Ok b
 as_ok a b is = ap (λ (d : Database). let r : Result Database Damage = Ok d in r) is
 
-module _ (a m d : View) (before mid : SessionState) (events : List Event) (run : RunsAlong a m events (database_in before)) (done : GoesOn a m before mid events) (writes : Writes m d (OpensTo (database_in mid))) where
+keep_since : (a m d : View) → a.disk_faults ≤ m.disk_faults → m.disk_faults ≤ d.disk_faults → (why : Stop) → KeepCause m d why → KeepCause a d why
+keep_since a m d first second Disk cause = rises_since a.disk_faults m.disk_faults d.disk_faults first second cause
+keep_since a m d first second Say cause = cause
+keep_since a m d first second Memory cause = tt
+
+module _ (a m d : View) (before mid : SessionState) (steps : ℕ) (reading : Reading) (run : RunsAlong a m (events_in steps reading (session_in before)) (database_in before))
+    (done : GoesOn a m before mid (events_in steps reading (session_in before))) (writes : Writes m d (OpensTo (database_in mid))) where
+  abbrev events : List Event
+  events = events_in steps reading (session_in before)
+
   abbrev db : Database
   db = last_commit events (database_in before)
 
-  pub kept_moments : RunsAlong a d events (database_in before)
+  pub kept_moments : RunsAlong a d (events_in steps reading (session_in before)) (database_in before)
   kept_moments = subst (λ (es : List Event). RunsAlong a d es (database_in before)) (append-nil events)
       (along_on a m d events [] (database_in before) done.printed run
       (run_weaker m d _ (AlongFrom m.printed [] db) writes.moments (λ told p c is. ([], is.0 ∙ sym (append-nil m.printed), (refl, is.1 ∙ as_ok (database_in mid) db done.database)))))
@@ -89,40 +106,44 @@ module _ (a m d : View) (before mid : SessionState) (events : List Event) (run :
   kept_open : IsLawful m → IsLawful d → m.told → (c : Image) → d.may_leave c → opens c ≡ Ok db
   kept_open lawful lawful' told c left = after_writes m d (OpensTo (database_in mid)) lawful lawful' told writes (λ i was. done.ready.opens_to told i was) c left ∙ as_ok (database_in mid) db done.database
 
-  pub kept_cause : (m.told → IsLawful m) → (d.told → IsLawful d) → (why : Stop) → KeepCause m d why → PieceCause a d events (database_in before) why
-  kept_cause lawful lawful' Disk cause = (rises_since a.disk_faults m.disk_faults d.disk_faults run.continues.disk_faults writes.moments.continues.disk_faults cause, inr kept_printed)
-  kept_cause lawful lawful' Say cause = absurd cause
-  kept_cause lawful lawful' Memory cause = inr (λ told. let now = run.continues.told told in record {
+  kept_all : (m.told → IsLawful m) → (d.told → IsLawful d) → a.told → Done a d events (database_in before)
+  kept_all lawful lawful' told = let now = run.continues.told told in record {
     printed = kept_printed told;
     opens_to = λ c left. kept_open (lawful now) (lawful' (writes.moments.continues.told now)) now c left;
-  })
-
-  pub kept_stop : (m.told → IsLawful m) → (d.told → IsLawful d) → (after : SessionState) (why : Stop) (r : Result Bool Stop) → IsErrAnd r (λ x. x ≡ why) → KeepCause m d why → PieceEnd a d before after events r
-  kept_stop lawful lawful' after why (Ok failed) is cause = absurd is
-  kept_stop lawful lawful' after why (Err x) is cause = kept_cause lawful lawful' x (subst (λ (y : Stop). KeepCause m d y) (sym is) cause)
-
-  pub kept_done : (after : SessionState) → after.failed ≡ None → after.journal.last ≡ mid.journal.last → database_in after ≡ database_in mid → (m.told → Stores d after.keeper (database_in mid)) → GoesOn a d before after events
-  kept_done after is_open last same store = record {
-    ready = record {
-      is_open = is_open;
-      attached = writes.moments.continues.is_attached done.ready.attached;
-      settled = last ∙ done.ready.settled ∙ sym same;
-      opens_to = λ told c left. stores_open d after.keeper (database_in after) (kept told) c left;
-      store = kept;
-    };
-    database = same ∙ done.database;
-    printed = kept_printed;
   }
+
+  pub kept_stop : (m.told → IsLawful m) → (d.told → IsLawful d) → (state : SessionState) (why : Stop) (r : Result Bool Stop) → IsErrAnd r (λ x. x ≡ why) → KeepCause m d why → PieceEnd a d before state steps reading r
+  kept_stop lawful lawful' state why (Ok failed) is cause = absurd is
+  kept_stop lawful lawful' state why (Err x) is cause =
+      inr (keep_since a m d run.continues.disk_faults writes.moments.continues.disk_faults x (subst (λ (y : Stop). KeepCause m d y) (sym is) cause), kept_all lawful lawful')
+
+  pub kept_done : (state : SessionState) (failed : Bool) → state.failed ≡ None → state.engine ≡ mid.engine → (m.told → Stores d state.keeper (database_in mid))
+      → session_in mid ≡ after steps reading (session_in before) → failed ≡ is_failed (events_in steps reading (session_in before)) → PieceEnd a d before state steps reading (Ok failed)
+  kept_done state failed is_open same store leads is = (
+    record {
+      ready = record {
+        is_open = is_open;
+        attached = writes.moments.continues.is_attached done.ready.attached;
+        settled = ap (λ (e : Engine). (world e).last) same ∙ done.ready.settled ∙ sym now;
+        idle = subst (λ (e : Engine). IsIdle (world e)) (sym same) done.ready.idle;
+        opens_to = λ told c left. stores_open d state.keeper (database_in state) (kept told) c left;
+        store = kept;
+      };
+      database = now ∙ done.database;
+      printed = kept_printed;
+    },
+    ap (λ (e : Engine). session (world e) mode.Idle []) same ∙ leads,
+    is,
+  )
     where
-      kept : d.told → Stores d after.keeper (database_in after)
-      kept told = subst (λ (e : Database). Stores d after.keeper e) (sym same) (store (writes.moments.continues.told_before told))
+      now : database_in state ≡ database_in mid
+      now = ap (λ (e : Engine). (world e).database) same
+
+      kept : d.told → Stores d state.keeper (database_in state)
+      kept told = subst (λ (e : Database). Stores d state.keeper e) (sym now) (store (writes.moments.continues.told_before told))
 
 -- a piece stopped as its step did
-pub step_stop : (a m : View) (before after : SessionState) (events : List Event) (why : Stop) (r : Result Bool Stop) → IsErrAnd r (λ x. x ≡ why) → StepCause a m why → PieceEnd a m before after events r
-step_stop a m before after events why (Ok failed) is cause = absurd is
-step_stop a m before after events why (Err x) is cause = by_reason x (subst (λ (y : Stop). StepCause a m y) (sym is) cause)
-  where
-    by_reason : (x : Stop) → StepCause a m x → PieceCause a m events (database_in before) x
-    by_reason Disk is = (is.0, inl is.1)
-    by_reason Say is = is
-    by_reason Memory is = inl is
+pub step_stop : (a m : View) (before state : SessionState) (steps : ℕ) (reading : Reading) (why : Stop) (r : Result Bool Stop) → IsErrAnd r (λ x. x ≡ why) → StepEnd a m before state steps reading (Err why)
+    → PieceEnd a m before state steps reading r
+step_stop a m before state steps reading why (Ok failed) is cause = absurd is
+step_stop a m before state steps reading why (Err x) is cause = inl (subst (λ (y : Stop). StepEnd a m before state steps reading (Err y)) (sym is) cause)

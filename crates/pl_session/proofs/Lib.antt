@@ -1,11 +1,10 @@
-pub mod Answering
 pub mod Opens
 pub mod Folding
 pub mod Begins
-pub mod Says
-pub mod Kept
+pub mod Went
+pub mod Told
 pub mod Ends
+pub mod Kept
 pub mod Scripts
+pub mod Traces
 pub mod Progress
-pub mod Redefined
-pub mod Changed

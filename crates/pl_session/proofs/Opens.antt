@@ -1,37 +1,19 @@
--- From the batches of a store to the database that it opens to.
-use Rattle.std.proofs.Common.{◌≡◌, ℕ, suc, length, nat_eq, eqb-true, arith, List, [], ◌∷◌, ◌++◌, Option, Some, None, Result, Ok, Err, true, refl, sym, ◌∙◌, ap, subst}
-use Rattle.std.specs.Prelude.{is_some, option_and_then}
-use Rattle.std.proofs.lemmas.Option.{option_and_then_some}
+-- From the batches of a store to the database that it opens to, and when a session is ready.
+use Rattle.std.proofs.Common.{◌≡◌, ◌++◌, ◌∷◌, ℕ, List, [], Option, Some, None, Result, Ok, Err, ap, ◌∙◌}
 use Rattle.pl_base.specs.Image.{Image}
-use Rattle.pl_base.specs.declared.area.Area.{Area}
 use Rattle.pl_base.specs.declared.operation.Op.{Op}
+use Rattle.pl_command.specs.Ends.{IsIdle}
 use Rattle.pl_disk.specs.Disk.{View, Continues, Keeps}
+use Rattle.pl_engine.specs.Engines.{world}
 use Rattle.pl_keeper.specs.Batches.{Damage, Log, Stored, batches}
-use Rattle.pl_codec.specs.Reading.{operations_of, ops_within}
-use Rattle.pl_keeper.specs.Store.{Has, CommittedPayload}
 use Rattle.pl_keeper.specs.declared.head.Head.{Head}
 use Rattle.pl_undo.specs.Database.{Database}
-use Rattle.pl_meaning.specs.Opening.{apply_batches, in_area, opened_by, opens}
-use Rattle.pl_journal.specs.Journal.{LeadsTo}
-use Rattle.pl_journal.specs.Operation.{apply_all, apply_payload, empty}
-use Rattle.pl_codec.proofs.ReadsBack.{EachOp, all_back}
-use Rattle.pl_codec.specs.ReadBack.{OpReadsBack}
-use Rattle.std.specs.List.{AllByRecursion}
-use Rattle.pl_session.specs.State.{database_in, Stores, IsReady}
+use Rattle.pl_meaning.specs.Opening.{apply_batches, opened_by, opens}
+use Rattle.pl_journal.specs.Operation.{apply_all, empty}
+use Rattle.pl_port.proofs.Opens.{after, apply_batches-append, stores_open, stores_still}
+use Rattle.pl_port.specs.Ports.{Fits}
+use Rattle.pl_session.specs.State.{database_in, IsReady}
 use Rattle.pl_session.specs.declared.state.SessionState.{SessionState}
-
--- one batch, and those behind it
-abbrev pub after : Stored → List Stored → Option Database → Result Database ℕ
-after stored list o = elim o [ None ↦ Err stored.0 | Some next ↦ apply_batches list next ]
-
-pub apply_batches-append : (xs ys : List Stored) (db mid : Database) → apply_batches xs db ≡ Ok mid → apply_batches (xs ++ ys) db ≡ apply_batches ys mid
-apply_batches-append [] ys db mid is = let same : db ≡ mid = cc in ap (λ (d : Database). apply_batches ys d) same
-apply_batches-append (stored ∷ xs) ys db mid is =
-    (elim (apply_all stored.1 db) as (λ (o : Option Database). after stored xs o ≡ Ok mid → after stored (xs ++ ys) o ≡ apply_batches ys mid)
-    [ None ↦ λ h. absurd (err_ok stored.0 mid h) | Some next ↦ λ h. apply_batches-append xs ys next mid h ]) is
-  where
-    err_ok : (at : ℕ) (mid : Database) → (let r : Result Database ℕ = Err at in r ≡ Ok mid) → ⊥
-    err_ok at mid h = cc
 
 -- a batch that doesn't apply is the first also where others come behind it
 pub apply_batches-stopped : (xs ys : List Stored) (db : Database) (at : ℕ) → apply_batches xs db ≡ Err at → apply_batches (xs ++ ys) db ≡ Err at
@@ -40,89 +22,34 @@ apply_batches-stopped (stored ∷ xs) ys db at is =
     (elim (apply_all stored.1 db) as (λ (o : Option Database). after stored xs o ≡ Err at → after stored (xs ++ ys) o ≡ Err at)
     [ None ↦ λ h. h | Some next ↦ λ h. apply_batches-stopped xs ys next at h ]) is
 
--- one batch more
-pub leads_on : (list : List Stored) (at : ℕ) (ops : List Op) (db next : Database) → apply_batches list empty ≡ Ok db → apply_all ops db ≡ Some next → apply_batches (list ++ (at, ops) ∷ []) empty ≡ Ok next
-leads_on list at ops db next leads done = apply_batches-append list ((at, ops) ∷ []) empty db leads ∙ ap (λ (o : Option Database). after (at, ops) [] o) done
-
-pub some_of : {A : Type 0} (o : Option A) → is_some o ≡ true → (x : A) × (o ≡ Some x)
-some_of (Some x) is = (x, refl)
-some_of None is = absurd (cc)
-
 -- one batch more that doesn't apply
 pub stops_at : (list : List Stored) (at : ℕ) (ops : List Op) (db : Database) → apply_batches list empty ≡ Ok db → apply_all ops db ≡ None → apply_batches (list ++ (at, ops) ∷ []) empty ≡ Err at
 stops_at list at ops db leads none = apply_batches-append list ((at, ops) ∷ []) empty db leads ∙ ap (λ (o : Option Database). after (at, ops) [] o) none
-
--- the operations of a payload that leads to a database
-pub spelled_by : (payload : List ℕ) (db next : Database) → apply_payload payload db ≡ Some next → (ops : List Op) × (operations_of payload ≡ Some ops) × (apply_all ops db ≡ Some next)
-spelled_by payload db next done = option_and_then_some (λ ops. apply_all ops db) (operations_of payload) next done (λ ops spelled leads. (ops, spelled, leads))
-
-each_back : (ops : List Op) → AllByRecursion OpReadsBack ops → EachOp ops
-each_back [] back = tt
-each_back (op ∷ ops) back = (back.0, each_back ops back.1)
-
--- what a payload leads to is what its operations do
-pub applied : (payload : List ℕ) (db next : Database) → LeadsTo payload db next → apply_payload payload db ≡ Some next
-applied payload db next it =
-    ap (λ (p : List ℕ). option_and_then (λ ops. apply_all ops db) (operations_of p)) it.spelled
-    ∙ ap (λ (o : Option (List Op)). option_and_then (λ ops. apply_all ops db) o) (all_back it.ops (each_back it.ops it.back))
-    ∙ it.leads
-
-no_operations : operations_of [] ≡ Some []
-unfolding operations_of ops_within
-no_operations = refl
-
-pub no_bytes : (payload : List ℕ) → nat_eq (length payload) 0 ≡ true → payload ≡ []
-no_bytes [] is = refl
-no_bytes (b ∷ bytes) is = absurd (omega (arith, eqb-true (suc (length bytes)) 0 is))
-
--- an empty one leads nowhere
-pub nothing_applied : (payload : List ℕ) (db next : Database) → payload ≡ [] → apply_payload payload db ≡ Some next → next ≡ db
-nothing_applied payload db next none is =
-    let same : Some db ≡ Some next =
-    sym (ap (λ (o : Option (List Op)). option_and_then (λ ops. apply_all ops db) o) no_operations)
-    ∙ ap (λ (p : List ℕ). apply_payload p db) (sym none) ∙ is in
-    cc
-
-pub opens_by : (c : Image) (area : Area) (list : List Stored) (db : Database) → batches c ≡ Ok (record { area = area; list = list }) → apply_batches list empty ≡ Ok db → opens c ≡ Ok db
-unfolding opens
-opens_by c area list db has leads = ap (λ (r : Result Log Damage). opened_by r) has ∙ ap (λ (r : Result Database ℕ). in_area area r) leads
 
 -- files of the same batches open alike
 pub opens_alike : (c d : Image) → batches c ≡ batches d → opens c ≡ opens d
 unfolding opens
 opens_alike c d same = ap (λ (r : Result Log Damage). opened_by r) same
 
-pub stores_open : (v : View) (keeper : Head) (db : Database) → Stores v keeper db → (c : Image) → v.may_leave c → opens c ≡ Ok db
-stores_open v keeper db stores c left = opens_by c keeper.area stores.list db (ap batches (stores.store.settled c left) ∙ stores.store.has.batches) stores.leads
+-- ---- sessions
 
--- a store after a commit, and one that stays
-pub stores_on : (a b : View) (old new : Head) (payload : List ℕ) (db next : Database) → CommittedPayload a b old new payload → Stores a old db → apply_payload payload db ≡ Some next → Stores b new next
-stores_on a b old new payload db next committed s done =
-    let it = spelled_by payload db next done in
-    record {
-      list = s.list ++ (old.end, it.0) ∷ [];
-      store = committed it.0 it.1 s.list s.store;
-      leads = leads_on s.list old.end it.0 db next s.leads it.2;
-    }
-
-pub stores_still : (a d : View) (keeper : Head) (db : Database) → Keeps a d → Stores a keeper db → Stores d keeper db
-stores_still a d keeper db keeps s = record {
-  list = s.list;
-  store = record {
-    settled = λ c left. s.store.settled c (keeps.crash c left) ∙ sym keeps.seen;
-    has = subst (λ (i : Image). Has s.list keeper i) (sym keeps.seen) s.store.has;
-  };
-  leads = s.leads;
+-- a session over a store of its database
+pub ready_by : (v : View) (state : SessionState) → state.failed ≡ None → IsIdle (world state.engine) → (world state.engine).last ≡ database_in state → Fits v state.keeper (database_in state) → IsReady v state
+ready_by v state is_open idle settled fits = record {
+  is_open = is_open;
+  attached = fits.attached;
+  settled = settled;
+  idle = idle;
+  opens_to = λ told c left. stores_open v state.keeper (database_in state) (fits.store told) c left;
+  store = fits.store;
 }
 
--- a session stays ready where the files stay
-pub still_ready : (a d : View) (before after : SessionState) → IsReady a before → Continues a d → (a.told → Keeps a d)
-    → after.failed ≡ before.failed → after.keeper ≡ before.keeper → after.journal.last ≡ before.journal.last → database_in after ≡ database_in before → IsReady d after
-still_ready a d before after was on keeps failed keeper last db = record {
-  is_open = failed ∙ was.is_open;
-  attached = on.is_attached was.attached;
-  settled = last ∙ was.settled ∙ sym db;
-  opens_to = λ told c left. was.opens_to (on.told_before told) c ((keeps (on.told_before told)).crash c left) ∙ ap (λ (e : Database). let r : Result Database Damage = Ok e in r) (sym db);
-  store = λ told. let t = on.told_before told in let same = stores_still a d before.keeper (database_in before) (keeps t) (was.store t) in
-      subst (λ (e : Database). Stores d after.keeper e) (sym db) (subst (λ (k : Head). Stores d k (database_in before)) (sym keeper) same);
+pub ready_fits : (v : View) (state : SessionState) → IsReady v state → Fits v state.keeper (database_in state)
+ready_fits v state ready = record { attached = ready.attached; store = ready.store }
+
+-- a store stays where the files stay
+pub fits_still : (a d : View) (keeper : Head) (db : Database) → Continues a d → (a.told → Keeps a d) → Fits a keeper db → Fits d keeper db
+fits_still a d keeper db on keeps fits = record {
+  attached = on.is_attached fits.attached;
+  store = λ told. let before = on.told_before told in stores_still a d keeper db (keeps before) (fits.store before);
 }

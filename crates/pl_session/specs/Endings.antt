@@ -1,31 +1,29 @@
 -- How a call of a session ends.
-use Rattle.std.specs.Prelude.{◌≡◌, ◌++◌, List, Bool, true, false, Some, Ok}
+use Rattle.std.specs.Prelude.{◌≡◌, ◌++◌, ℕ, List, Bool, true, false, Some, Ok}
 use Rattle.pl_base.specs.Image.{Image}
-use Rattle.pl_disk.specs.Disk.{View, Runs, Rises}
+use Rattle.pl_disk.specs.Disk.{View, Rises}
+use Rattle.pl_engine.specs.declared.stop.Stop.{Stop}
+use Rattle.pl_engine.specs.declared.stop.Stop.TheVariants.{Disk, Say, Memory}
 use Rattle.pl_lex.specs.Characters.{Text}
-use Rattle.pl_meaning.specs.Covered.{AlongFrom}
 use Rattle.pl_undo.specs.Database.{Database}
-use Rattle.pl_meaning.specs.Meaning.{AreOfFirst, IsTrace}
 use Rattle.pl_meaning.specs.Opening.{opens}
 use Rattle.pl_meaning.specs.Trace.{Event, text, last_commit}
-use Rattle.pl_session.specs.State.{database_in, IsReady}
+pub use Rattle.pl_port.specs.Stores.{RunsAlong}
+use Rattle.pl_session.specs.State.{database_in, session_in, IsReady}
+use Rattle.pl_session.specs.Traces.{AreFront, IsTrace}
 use Rattle.pl_session.specs.declared.halt.Ended.{Ended}
 use Rattle.pl_session.specs.declared.halt.Ended.TheVariants.{Whole, AtError}
 use Rattle.pl_session.specs.declared.halt.Halt.{Halt}
 use Rattle.pl_session.specs.declared.halt.Halt.TheVariants.{Closed, Stopped}
 use Rattle.pl_session.specs.declared.halt.Outcome.{Outcome}
 use Rattle.pl_session.specs.declared.halt.Outcome.TheVariants.{Fine, Errored}
-use Rattle.pl_session.specs.declared.halt.Stop.{Stop}
-use Rattle.pl_session.specs.declared.halt.Stop.TheVariants.{Disk, Say, Memory}
 use Rattle.pl_session.specs.declared.state.SessionState.{SessionState}
+use Rattle.pl_world.specs.Sessions.{Session}
 
--- this holds of the events of a script from a database on
-abbrev pub OfTrace : Text → (stops : Bool) → Database → (List Event → Type 0) → Type 0
-OfTrace script stops db P = (events : List Event) → IsTrace script stops db events → P events
-
--- at each moment of a call, what it printed so far and what a crash then leaves go along these events
-abbrev pub RunsAlong : View → View → List Event → Database → Type 0
-RunsAlong old new events db = Runs old new (AlongFrom old.printed events db)
+-- this holds of the events of a script from a session on
+abbrev pub OfTrace : Text → (steps : ℕ) → (stops : Bool) → Session → (List Event → Type 0) → Type 0
+OfTrace script steps stops s P =
+    (events : List Event) → IsTrace script steps stops s events → P events
 
 -- These events are done, and no other: all that they say is printed, and each crash leaves files that
 -- open to their last commit.
@@ -33,11 +31,11 @@ pub record Done (old new : View) (events : List Event) (db : Database) : Type 0 
   pub printed : new.printed ≡ old.printed ++ text events
   pub opens_to : (image : Image) → new.may_leave image → opens image ≡ Ok (last_commit events db)
 
--- All that was printed is the text of the first of a script's pieces, of some number of them: no
--- reply is printed in part.
-abbrev pub PrintsWhole : (old new : View) → Text → (stops : Bool) → Database → Type 0
-PrintsWhole old new script stops db = (events : List Event) × AreOfFirst script stops db events
-    × (old.told → new.printed ≡ old.printed ++ text events)
+-- All that was printed is the text of the first of a script's pieces, of some number of them, and of
+-- whole lines that the next one prints before its end: no reply is printed in part.
+abbrev pub PrintsWhole : (old new : View) → Text → (steps : ℕ) → (stops : Bool) → Session → Type 0
+PrintsWhole old new script steps stops s = (events : List Event)
+    × AreFront script steps stops s events × (old.told → new.printed ≡ old.printed ++ text events)
 
 -- After Ok: the events are printed to the end, and the session is ready with the database of their
 -- last commit.
@@ -48,20 +46,22 @@ pub record GoesOn (old new : View) (before after : SessionState) (events : List 
 
 -- Why a session stopped, a line a reason: the count of the disk's failures rose, and no reply is
 -- printed in part; that of the output's did; there was no memory, and then a whole number of the
--- script's pieces is done and nothing of the next one.
-abbrev pub StopsBy : View → View → Text → (stops : Bool) → Database → Stop → Type 0
-StopsBy old new script stops db Disk =
-    Rises old.disk_faults new.disk_faults × PrintsWhole old new script stops db
-StopsBy old new script stops db Say = Rises old.say_faults new.say_faults
-StopsBy old new script stops db Memory = (events : List Event) × AreOfFirst script stops db events
-    × (old.told → Done old new events db)
+-- script's pieces is done, and of the next one some of what it does before its end.
+abbrev pub StopsBy : View → View → Text → (steps : ℕ) → (stops : Bool) → Session → Stop → Type 0
+StopsBy old new script steps stops s Disk =
+    Rises old.disk_faults new.disk_faults × PrintsWhole old new script steps stops s
+StopsBy old new script steps stops s Say = Rises old.say_faults new.say_faults
+StopsBy old new script steps stops s Memory = (events : List Event)
+    × AreFront script steps stops s events × (old.told → Done old new events s.world.database)
 
--- Why a call did not run to its end, a line an ending: the session had stopped before, and nothing was done; or it stopped now, and is
--- closed from then on.
-abbrev pub HasCause : {H : Type 0} → (view : H → View) → (old new : H) → (before after : SessionState) → Text → (stops : Bool) → Halt → Type 0
-HasCause view old new before after script stops (Closed why) = (before.failed ≡ Some why) × (new ≡ old) × (after ≡ before)
-HasCause view old new before after script stops (Stopped why) =
-    (after.failed ≡ Some why) × StopsBy (view old) (view new) script stops (database_in before) why
+-- Why a call did not run to its end, a line an ending: the session had stopped before, and nothing
+-- was done; or it stopped now, and is closed from then on.
+abbrev pub HasCause : {H : Type 0} → (view : H → View) → (old new : H)
+    → (before after : SessionState) → Text → (steps : ℕ) → (stops : Bool) → Halt → Type 0
+HasCause view old new before after script steps stops (Closed why) =
+    (before.failed ≡ Some why) × (new ≡ old) × (after ≡ before)
+HasCause view old new before after script steps stops (Stopped why) = (after.failed ≡ Some why)
+    × StopsBy (view old) (view new) script steps stops (session_in before) why
 
 -- a command ended so, by whether it failed
 abbrev pub outcome_of : Bool → Outcome

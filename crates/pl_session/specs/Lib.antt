@@ -1,6 +1,5 @@
 pub mod Halts
-pub mod Replies
-pub mod Performing
+pub mod Traces
 pub mod State
 pub mod Short
 pub mod Starts

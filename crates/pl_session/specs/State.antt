@@ -1,31 +1,31 @@
 -- A session between two calls.
-use Rattle.std.specs.Prelude.{◌≡◌, List, None, Ok}
+use Rattle.std.specs.Prelude.{◌≡◌, [], None, Ok}
 use Rattle.pl_base.specs.Image.{Image}
+use Rattle.pl_command.specs.Ends.{IsIdle}
 use Rattle.pl_disk.specs.Disk.{View}
-use Rattle.pl_journal.specs.Operation.{empty}
-use Rattle.pl_keeper.specs.Batches.{Stored}
-use Rattle.pl_keeper.specs.Store.{IsStore}
-use Rattle.pl_keeper.specs.declared.head.Head.{Head}
-use Rattle.pl_meaning.specs.Opening.{apply_batches, opens}
+use Rattle.pl_engine.specs.Engines.{world}
+use Rattle.pl_meaning.specs.Opening.{opens}
+use Rattle.pl_port.specs.Stores.{Stores}
 use Rattle.pl_session.specs.declared.state.SessionState.{SessionState}
 use Rattle.pl_undo.specs.Database.{Database}
+use Rattle.pl_world.specs.Sessions.{Session, session}
+use Rattle.pl_world.specs.declared.session.Mode.TheVariants as mode
 
--- the database that a session holds
+-- what a session stands for: it is in no transaction block
+abbrev pub session_in : SessionState → Session
+session_in state = session (world state.engine) mode.Idle []
+
+-- the database that it holds
 abbrev pub database_in : SessionState → Database
-database_in state = state.journal.now
-
--- nothing is unsettled, and the files are a store of batches that lead to this database, whose frames end at the keeper's place
-pub record Stores (v : View) (keeper : Head) (db : Database) : Type 0 where
-  pub list : List Stored
-  pub store : IsStore v keeper list
-  pub leads : apply_batches list empty ≡ Ok db
+database_in state = (world state.engine).database
 
 -- What a call of a session begins with, and what it leaves after Ok: the session is open, its host
 -- has a store, and every crash leaves files that open to its database (`store` is how its keeper
--- knows them), which is that of the last commit.
+-- knows them), which is that of the last commit. It is in no block, and no block is protected.
 pub record IsReady (v : View) (state : SessionState) : Type 0 where
   pub is_open : state.failed ≡ None
   pub attached : v.is_attached
-  pub settled : state.journal.last ≡ state.journal.now
+  pub settled : (world state.engine).last ≡ database_in state
+  pub idle : IsIdle (world state.engine)
   pub opens_to : v.told → (c : Image) → v.may_leave c → opens c ≡ Ok (database_in state)
   pub store : v.told → Stores v state.keeper (database_in state)

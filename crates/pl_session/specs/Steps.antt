@@ -1,51 +1,51 @@
 -- What the parts of a call do.
-use Rattle.std.specs.Prelude.{◌≡◌, ◌⊎◌, ◌++◌, ℕ, List, Bool, Option, Some, None, Result, Ok, Err}
+use Rattle.std.specs.Prelude.{◌≡◌, ◌⊎◌, ◌++◌, ℕ, List, [], ◌∷◌, Bool, Option, Some, None, Result, Ok, Err}
 use Rattle.pl_base.specs.Image.{Image}
 use Rattle.pl_disk.specs.Disk.{View, Rises}
+use Rattle.pl_engine.specs.Engines.{world}
+use Rattle.pl_engine.specs.Texts.{do_bodies}
+use Rattle.pl_engine.specs.declared.engine.Engine.{Engine}
+use Rattle.pl_engine.specs.declared.stop.Stop.{Stop}
+use Rattle.pl_engine.specs.declared.stop.Stop.TheVariants.{Disk, Say, Memory}
 use Rattle.pl_journal.specs.Operation.{empty}
 use Rattle.pl_keeper.specs.Batches.{Stored}
+use Rattle.pl_keeper.specs.declared.head.Head.{Head}
 use Rattle.pl_meaning.specs.Opening.{apply_batches, opens}
-use Rattle.pl_meaning.specs.Trace.{Event, is_failed, text}
+use Rattle.pl_meaning.specs.Trace.{Event, is_failed, last_commit, text}
+use Rattle.pl_port.specs.Ports.{Takes}
+use Rattle.pl_reading.specs.declared.reading.Reading.{Reading}
 use Rattle.pl_session.specs.Endings.{Done, GoesOn}
-use Rattle.pl_session.specs.State.{database_in}
-use Rattle.pl_session.specs.declared.halt.Stop.{Stop}
-use Rattle.pl_session.specs.declared.halt.Stop.TheVariants.{Disk, Say, Memory}
+use Rattle.pl_session.specs.State.{database_in, session_in}
+use Rattle.pl_session.specs.Traces.{after, events_in, told_before}
 use Rattle.pl_session.specs.declared.state.SessionState.{SessionState}
+use Rattle.pl_tree.specs.declared.command.Command.{Command}
 use Rattle.pl_undo.specs.Database.{Database}
+use Rattle.pl_world.specs.Scripts.{outward, reply_event}
+use Rattle.pl_world.specs.Sessions.{Went, plain, session, went}
+use Rattle.pl_world.specs.World.{World, Ran}
+use Rattle.pl_world.specs.World as world_events
+use Rattle.pl_world.specs.declared.session.Mode.TheVariants as mode
+use Rattle.pl_world.specs.declared.session.Reply.{Reply}
 
--- nothing was done: nothing more is printed, and a crash leaves nothing new
-pub record Idle (old new : View) : Type 0 where
-  pub printed : old.told → new.printed ≡ old.printed
-  pub images : old.told → (c : Image) → new.may_leave c → old.may_leave c
+-- ---- why a part stopped
 
--- why a step stopped: where the disk failed nothing is printed, and for want of memory nothing is done
-abbrev pub StepCause : View → View → Stop → Type 0
-StepCause old new Disk =
-    Rises old.disk_faults new.disk_faults × (old.told → new.printed ≡ old.printed)
-StepCause old new Say = Rises old.say_faults new.say_faults
-StepCause old new Memory = Idle old new
+-- a front of these events is done
+abbrev pub IsPart : (part whole : List Event) → Type 0
+IsPart part whole = (left : List Event) × (whole ≡ part ++ left)
 
--- how a step with these events ended: they are done, and the answer is whether it failed; or it stopped
-abbrev pub StepEnd : (old new : View) (before after : SessionState) → List Event → Result Bool Stop → Type 0
-StepEnd old new before after events (Ok failed) = GoesOn old new before after events × (failed ≡ is_failed events)
-StepEnd old new before after events (Err why) = StepCause old new why
+-- Why a step stopped that tells these events before its end: the disk failed, and what was printed
+-- is a front of them; printing failed; or there was no memory, and a front of them is done.
+abbrev pub StepCause : View → View → (told : List Event) → Database → Stop → Type 0
+StepCause old new told db Disk = Rises old.disk_faults new.disk_faults
+    × ((part : List Event) × IsPart part told × (old.told → new.printed ≡ old.printed ++ text part))
+StepCause old new told db Say = Rises old.say_faults new.say_faults
+StepCause old new told db Memory =
+    (part : List Event) × IsPart part told × (old.told → Done old new part db)
 
--- Why a piece of a script with these events stopped: its step did; or all of it was done, and then
--- writing the database anew failed.
-abbrev pub PieceCause : View → View → List Event → Database → Stop → Type 0
-PieceCause old new events db Disk = Rises old.disk_faults new.disk_faults
-    × ((old.told → new.printed ≡ old.printed)
-    ⊎ (old.told → new.printed ≡ old.printed ++ text events))
-PieceCause old new events db Say = Rises old.say_faults new.say_faults
-PieceCause old new events db Memory = Idle old new ⊎ (old.told → Done old new events db)
-
--- how a piece with these events ended: they are done, and the answer is whether it failed; or it
--- stopped
-abbrev pub PieceEnd : (old new : View) (before after : SessionState) → List Event
-    → Result Bool Stop → Type 0
-PieceEnd old new before after events (Ok failed) =
-    GoesOn old new before after events × (failed ≡ is_failed events)
-PieceEnd old new before after events (Err why) = PieceCause old new events (database_in before) why
+-- why a reply wasn't printed
+abbrev pub SayCause : View → View → Stop → Type 0
+SayCause old new Say = Rises old.say_faults new.say_faults
+SayCause old new why = ⊥
 
 -- why the database wasn't written anew: the count of the disk's failures rose, or there was no memory
 abbrev pub KeepCause : View → View → Stop → Type 0
@@ -53,13 +53,57 @@ KeepCause old new Disk = Rises old.disk_faults new.disk_faults
 KeepCause old new Say = ⊥
 KeepCause old new Memory = Unit {0}
 
+-- ---- commands
+
+-- what a command does before its end, from a world on
+abbrev pub ran : (steps : ℕ) → Command → World → Ran Reply
+ran steps c w = plain do_bodies steps c (session w mode.Idle [])
+
+-- A command went so, and all of it is done but for its reply.
+pub record DoneBefore (w : Went) (answer : Reply) (old new : Engine) (a b : View) (k l : Head)
+    : Type 0 where
+  pub events : List world_events.Event
+  pub gives : w ≡ went (session (world new) mode.Idle []) answer events
+  pub takes : Takes (outward events) (world old).last a b k l
+  pub last : (world new).last ≡ last_commit (outward events) (world old).last
+
+-- the events of a reply
+abbrev pub replies : Reply → List Event
+replies answer = reply_event answer.fail answer ∷ []
+
+-- ---- pieces
+
+-- how a step ended by this reading: its events are done, and the answer is whether it failed; or it
+-- stopped
+abbrev pub StepEnd : (old new : View) (before state : SessionState) → (steps : ℕ) → Reading
+    → Result Bool Stop → Type 0
+StepEnd old new before state steps reading (Ok failed) =
+    GoesOn old new before state (events_in steps reading (session_in before))
+    × (session_in state ≡ after steps reading (session_in before))
+    × (failed ≡ is_failed (events_in steps reading (session_in before)))
+StepEnd old new before state steps reading (Err why) =
+    StepCause old new (told_before steps reading (session_in before)) (database_in before) why
+
+-- Why a piece of a script stopped: its step did; or all of it was done, and then writing the
+-- database anew failed.
+abbrev pub PieceCause : View → View → (told events : List Event) → Database → Stop → Type 0
+PieceCause old new told events db why = StepCause old new told db why
+    ⊎ (KeepCause old new why × (old.told → Done old new events db))
+
+-- how a piece ended: as a step, or in writing the database anew
+abbrev pub PieceEnd : (old new : View) (before state : SessionState) → (steps : ℕ) → Reading
+    → Result Bool Stop → Type 0
+PieceEnd old new before state steps reading (Ok failed) =
+    StepEnd old new before state steps reading (Ok failed)
+PieceEnd old new before state steps reading (Err why) =
+    PieceCause old new (told_before steps reading (session_in before))
+    (events_in steps reading (session_in before)) (database_in before) why
+
+-- ---- stores
+
 -- the files open to this database
 abbrev pub OpensTo : Database → Image → Type 0
 OpensTo db c = opens c ≡ Ok db
-
--- every crash leaves files that open to this database
-abbrev pub AllOpen : View → Database → Type 0
-AllOpen v db = v.told → (c : Image) → v.may_leave c → opens c ≡ Ok db
 
 -- these batches lead to the database; or the one at this place is the first that doesn't apply
 abbrev pub Reaches : List Stored → Database → (stopped : Option ℕ) → Type 0

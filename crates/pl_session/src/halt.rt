@@ -3,11 +3,10 @@
 ghost use Rattle.std.specs.Prelude.{◌≡◌};
 ghost use Rattle.pl_session.specs.Halts.{start_fail_of};
 ghost use Rattle.pl_session.specs.declared.halt.StartFail.TheVariants as start;
-ghost use Rattle.pl_session.specs.declared.halt.Stop.TheVariants as stop;
 
 use pl_base::{Area, Memory};
+pub use pl_engine::Stop;
 use pl_frames::FrameFail;
-use std::alloc::AllocError;
 
 /// Why a store wasn't opened.
 #[derive(Clone, Copy, Debug, PartialEq, Eq)]
@@ -39,40 +38,15 @@ impl From<FrameFail> for StartFail {
     }
 }
 
-/// Why a session stopped. What was committed stands; the session isn't used again, and the store is
-/// opened anew.
-#[derive(Clone, Copy, Debug, PartialEq, Eq)]
-pub enum Stop {
-    /// A call of the disk failed. The command that ran then is stored or isn't; where its reply was
-    /// printed it is, and the database was to be written anew.
-    Disk,
-    /// A reply wasn't printed wholly.
-    Say,
-    Memory,
-}
-
-impl From<AllocError> for Stop {
-    ghost from_gives = { λ _ e. e ≡ stop.Memory };
-
-    fn from(_: AllocError) -> Self {
-        Stop::Memory
-    }
-}
-
-impl From<Memory> for Stop {
-    ghost from_gives = { λ _ e. e ≡ stop.Memory };
-
-    fn from(_: Memory) -> Self {
-        Stop::Memory
-    }
-}
-
 /// Why a command or a script didn't run to its end.
 #[derive(Clone, Copy, Debug, PartialEq, Eq)]
 pub enum Halt {
     /// The session had stopped before, for this reason. Nothing was done.
     Closed(Stop),
-    /// The session stopped now.
+    /// The session stopped now, and isn't used again: the store is opened anew. What was committed
+    /// stands. Where the disk failed, the commit that was made then is stored or isn't; where the
+    /// reply behind it was printed it is, and the database was to be written anew. Where printing
+    /// failed, a line wasn't printed wholly.
     Stopped(Stop),
 }
 
@@ -80,7 +54,8 @@ pub enum Halt {
 #[derive(Clone, Copy, Debug, PartialEq, Eq)]
 pub enum Outcome {
     Fine,
-    /// A command was answered with an error, and changed nothing. It is the last that ran.
+    /// A command was answered with an error. What it did since its last commit is undone, and it is
+    /// the last that ran.
     Errored,
 }
 

@@ -3,7 +3,7 @@
 ghost use Rattle.std.specs.Prelude.{◌≡◌, false, IfErr, OnOk};
 ghost use Rattle.pl_disk.specs.Disk.{Writes};
 ghost use Rattle.pl_keeper.specs.Checkpoint.{is_due};
-ghost use Rattle.pl_session.specs.State.{Stores};
+ghost use Rattle.pl_port.specs.Stores.{Stores};
 ghost use Rattle.pl_session.specs.Steps.{KeepCause, OpensTo};
 
 use crate::halt::Stop;

@@ -5,8 +5,8 @@ ghost use Rattle.std.specs.Prelude.{◌≡◌, ◌<◌, ◌^◌, ◌++◌, ◌�
 ghost use Rattle.pl_disk.specs.Disk.{Looks};
 ghost use Rattle.pl_keeper.specs.Batches.{Stored};
 ghost use Rattle.pl_keeper.specs.Store.{IsReading, stored};
+ghost use Rattle.pl_port.specs.Stores.{Stores};
 ghost use Rattle.pl_session.specs.Starts.{HasStartCause};
-ghost use Rattle.pl_session.specs.State.{Stores};
 ghost use Rattle.pl_session.specs.Steps.{Reaches};
 
 use crate::halt::StartFail;
@@ -55,6 +55,7 @@ pub fn fold<H: Host>(
     ensures folded { (H.view host.old).told → IfOk result (λ folded.
         Stores (H.view host.new) folded.1 folded.0.now) }
     ensures settled { IfOk result (λ folded. folded.0.last ≡ folded.0.now) }
+    ensures unmarked { IfOk result (λ folded. folded.0.marks ≡ []) }
     ensures cause { IfErr result (HasStartCause (H.view host.old) (H.view host.new)) }
 {
     let mut reader = reader;

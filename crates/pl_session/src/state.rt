@@ -1,117 +1,47 @@
-//! A session: the database in memory, and the keeper of the store that holds it.
+//! A session: the engine that does its commands, and the keeper of the store that holds what they
+//! committed.
 
-ghost use Rattle.std.specs.Prelude.{true, false, ◌≡◌, ◌&&◌, ◌++◌, ◌∷◌, [], None, Some, Err, IfOk, IfErr, OnOk, IsErrOf};
-ghost use Rattle.pl_disk.specs.Disk.{Keeps, Runs, Settled, Untouched};
+ghost use Rattle.std.specs.Prelude.{true, false, ◌≡◌, ◌&&◌, Some, Err, IfOk, IfErr, OnOk, IsErrOf};
+ghost use Rattle.pl_disk.specs.Disk.{Runs, Settled, Untouched};
+ghost use Rattle.pl_engine.specs.declared.stop.Stop.{Stop};
 ghost use Rattle.pl_keeper.specs.Batches.{Damage, spare_area};
 ghost use Rattle.pl_keeper.specs.Checkpoint.{is_due};
-ghost use Rattle.pl_reading.specs.Computed.{MeansAlike};
-ghost use Rattle.pl_meaning.specs.Meaning.{events};
+ghost use Rattle.pl_reading.specs.Computed.{CommandMeansAlike, MeansAlike};
+ghost use Rattle.pl_reading.specs.declared.reading.Reading.{Reading as OneReading};
+ghost use Rattle.pl_reading.specs.declared.reading.Reading.TheVariants as reading;
 ghost use Rattle.pl_meaning.specs.Opening.{opens};
-ghost use Rattle.pl_meaning.specs.Trace.{Said, Committed, is_failed};
+ghost use Rattle.pl_meaning.specs.Trace.{is_failed};
 ghost use Rattle.pl_session.specs.Endings.{OfTrace, RunsAlong, GoesOn, StopsBy, HasCause, outcome_of, ended_of};
-ghost use Rattle.pl_session.specs.Replies.{lines_of, event_of};
 ghost use Rattle.pl_session.specs.Short.{StaysShort};
 ghost use Rattle.pl_session.specs.Spare.{KeepsArea};
 ghost use Rattle.pl_session.specs.Starts.{StartPair, OpensSame, IsStarted, HasStartCause};
-ghost use Rattle.pl_session.specs.State.{database_in, Stores, IsReady};
-ghost use Rattle.pl_session.specs.Steps.{AllOpen, PieceEnd, StepCause, StepEnd};
+ghost use Rattle.pl_session.specs.State.{database_in, session_in, IsReady};
+ghost use Rattle.pl_session.specs.Steps.{PieceEnd, StepEnd};
+ghost use Rattle.pl_session.specs.Traces as spec;
+ghost use Rattle.pl_session.specs.Traces.{LeadsTo, events_in, waiting};
 ghost use Rattle.pl_session.specs.declared.halt.Halt.TheVariants.{Closed};
-ghost use Rattle.pl_session.specs.declared.halt.Stop.{Stop};
-ghost use Rattle.pl_undo.specs.Database.{Database};
 
+use crate::answering::{do_command, is_control, say_reply};
 use crate::halt::{Ended, Halt, Outcome, StartFail, Stop};
 use crate::keeping::keep_short;
 use crate::opening::fold;
-use crate::performing::{Performed, perform};
-use crate::reply::Reply;
 use crate::script::read_next;
+use pl_base::State;
+use pl_command::refuse;
 use pl_disk::Host;
-use pl_frames::FrameFail;
-use pl_journal::Journal;
+use pl_engine::Engine;
 use pl_keeper::Keeper;
 use pl_reading::Reading;
+use pl_tree::Command;
 use std::alloc::Global;
 
 /// What a session knows besides its host. Every call takes the same host.
 #[derive(Drop)]
 pub struct SessionState {
     alloc: Global,
-    journal: Journal,
+    engine: Engine,
     keeper: Keeper,
     failed: Option<Stop>,
-}
-
-// Prints a reply.
-fn answer<H: Host>(alloc: Global, host: &mut H, reply: Reply) -> Result<(), Stop>
-    ensures moments { (db : Database) → AllOpen (H.view host.old) db
-        → RunsAlong (H.view host.old) (H.view host.new) (event_of reply ∷ []) db }
-    ensures images { (H.view host.old).told → Keeps (H.view host.old) (H.view host.new) }
-    ensures printed { (H.view host.old).told
-        → OnOk result ((H.view host.new).printed ≡ (H.view host.old).printed ++ lines_of reply) }
-    ensures cause { IfErr result (StepCause (H.view host.old) (H.view host.new)) }
-{
-    let lines = reply.lines(alloc)?;
-    match host.say(lines.as_slice()) {
-        Ok(()) => Ok(()),
-        Err(_) => Err(Stop::Say),
-    }
-}
-
-// Commits what was changed since the last commit. Where nothing was, no call of the host is made.
-fn commit<H: Host>(
-    keeper: &mut Keeper,
-    alloc: Global,
-    host: &mut H,
-    journal: &Journal,
-) -> Result<(), Stop>
-    requires attached { (H.view host.old).is_attached }
-    requires store { (H.view host.old).told
-        → Stores (H.view host.old) keeper.old journal.now.last }
-    ensures moments { RunsAlong (H.view host.old) (H.view host.new)
-        (Committed journal.now.now ∷ []) journal.now.last }
-    ensures store { (H.view host.old).told
-        → OnOk result (Stores (H.view host.new) keeper.new journal.now.now) }
-    ensures printed { (H.view host.old).told
-        → (H.view host.new).printed ≡ (H.view host.old).printed }
-    ensures cause { IfErr result (StepCause (H.view host.old) (H.view host.new)) }
-{
-    let payload = journal.payload();
-    if payload.is_empty() {
-        return Ok(());
-    }
-    match keeper.commit_payload(alloc, host, payload) {
-        Ok(()) => Ok(()),
-        Err(FrameFail::Fault) => Err(Stop::Disk),
-        Err(FrameFail::Memory) => Err(Stop::Memory),
-        Err(FrameFail::Damaged { .. }) => unreachable!(),
-    }
-}
-
-// Commits what was changed and then prints the reply.
-fn commit_then_answer<H: Host>(
-    keeper: &mut Keeper,
-    alloc: Global,
-    host: &mut H,
-    journal: &Journal,
-    reply: Reply,
-) -> Result<(), Stop>
-    requires attached { (H.view host.old).is_attached }
-    requires store { (H.view host.old).told
-        → Stores (H.view host.old) keeper.old journal.now.last }
-    ensures moments { RunsAlong (H.view host.old) (H.view host.new)
-        (Committed journal.now.now ∷ Said (lines_of reply) ∷ []) journal.now.last }
-    ensures store { (H.view host.old).told
-        → OnOk result (Stores (H.view host.new) keeper.new journal.now.now) }
-    ensures printed { (H.view host.old).told
-        → OnOk result ((H.view host.new).printed ≡ (H.view host.old).printed ++ lines_of reply) }
-    ensures cause { IfErr result (StepCause (H.view host.old) (H.view host.new)) }
-{
-    let lines = reply.lines(alloc)?;
-    commit(keeper, alloc, host, journal)?;
-    match host.say(lines.as_slice()) {
-        Ok(()) => Ok(()),
-        Err(_) => Err(Stop::Say),
-    }
 }
 
 // Whether a script ends at a command.
@@ -155,7 +85,7 @@ impl SessionState {
         let (journal, keeper) = fold(alloc, host, reader)?;
         Ok(SessionState {
             alloc,
-            journal,
+            engine: Engine::new(alloc, journal),
             keeper,
             failed: None,
         })
@@ -168,43 +98,83 @@ impl SessionState {
         self.failed
     }
 
-    // Runs what a piece of a script is read as. The answer is whether it was an error.
-    fn run_reading<H: Host>(&mut self, host: &mut H, reading: Reading) -> Result<bool, Stop>
+    // Answers a piece that is no command, with this SQLSTATE. The answer is that it was an error.
+    fn refuse_piece<H: Host>(
+        &mut self,
+        host: &mut H,
+        state: State,
+        steps: u64,
+    ) -> Result<bool, Stop>
+        requires ready { IsReady (H.view host.old) self.old }
+        ensures moments { (r : OneReading) → waiting r ≡ reading.Refused state
+            → RunsAlong (H.view host.old) (H.view host.new)
+            (events_in steps r (session_in self.old)) (database_in self.old) }
+        ensures ended { (r : OneReading) → waiting r ≡ reading.Refused state
+            → StepEnd (H.view host.old) (H.view host.new) self.old self.new steps r result }
+    {
+        let answer = refuse(&self.engine, state)?;
+        say_reply(host, answer)
+    }
+
+    // Does a command, and prints its reply. The answer is whether it was an error.
+    fn answer<H: Host>(&mut self, host: &mut H, tree: Command, steps: u64) -> Result<bool, Stop>
+        requires ready { IsReady (H.view host.old) self.old }
+        requires alike { CommandMeansAlike tree }
+        requires alone { spec.is_control tree ≡ false }
+        ensures moments { RunsAlong (H.view host.old) (H.view host.new)
+            (events_in steps (reading.Spelled tree) (session_in self.old)) (database_in self.old) }
+        ensures ended { StepEnd (H.view host.old) (H.view host.new) self.old self.new
+            steps (reading.Spelled tree) result }
+    {
+        let answer = do_command(&mut self.engine, &mut self.keeper, host, steps, tree)?;
+        say_reply(host, answer)
+    }
+
+    // Runs what a piece of a script is read as, in so many steps at the most. The answer is whether
+    // it was an error.
+    fn run_reading<H: Host>(
+        &mut self,
+        host: &mut H,
+        reading: Reading,
+        steps: u64,
+    ) -> Result<bool, Stop>
         requires ready { IsReady (H.view host.old) self.old }
         requires alike { MeansAlike reading }
         ensures moments { RunsAlong (H.view host.old) (H.view host.new)
-            (events reading (database_in self.old)) (database_in self.old) }
+            (events_in steps reading (session_in self.old)) (database_in self.old) }
         ensures ended { StepEnd (H.view host.old) (H.view host.new) self.old self.new
-            (events reading (database_in self.old)) result }
+            steps reading result }
     {
-        match perform(self.alloc, &mut self.journal, reading)? {
-            Performed::Nothing => Ok(false),
-            Performed::Answers(reply) => {
-                let is_error = reply.is_error();
-                answer(self.alloc, host, reply)?;
-                Ok(is_error)
-            }
-            Performed::Commits(reply) => {
-                commit_then_answer(&mut self.keeper, self.alloc, host, &self.journal, reply)?;
-                self.journal.seal();
-                Ok(false)
+        match reading {
+            Reading::Nothing => Ok(false),
+            Reading::Refused(state) => self.refuse_piece(host, state, steps),
+            Reading::Spelled(tree) => {
+                if is_control(&tree) {
+                    return self.refuse_piece(host, State::FEATURE_NOT_SUPPORTED, steps);
+                }
+                self.answer(host, tree, steps)
             }
         }
     }
 
     // Runs what a piece of a script is read as, and writes the database anew once its reply was
     // said, where that is due. The answer is whether it was an error.
-    fn run_piece<H: Host>(&mut self, host: &mut H, reading: Reading) -> Result<bool, Stop>
+    fn run_piece<H: Host>(
+        &mut self,
+        host: &mut H,
+        reading: Reading,
+        steps: u64,
+    ) -> Result<bool, Stop>
         requires ready { IsReady (H.view host.old) self.old }
         requires alike { MeansAlike reading }
         ensures moments { RunsAlong (H.view host.old) (H.view host.new)
-            (events reading (database_in self.old)) (database_in self.old) }
+            (events_in steps reading (session_in self.old)) (database_in self.old) }
         ensures ended { PieceEnd (H.view host.old) (H.view host.new) self.old self.new
-            (events reading (database_in self.old)) result }
+            steps reading result }
         ensures short { OnOk result (is_due self.new.keeper ≡ false) }
     {
-        let failed = self.run_reading(host, reading)?;
-        keep_short(&mut self.keeper, self.alloc, host, &self.journal)?;
+        let failed = self.run_reading(host, reading, steps)?;
+        keep_short(&mut self.keeper, self.alloc, host, self.engine.journal())?;
         Ok(failed)
     }
 
@@ -213,28 +183,31 @@ impl SessionState {
         &mut self,
         host: &mut H,
         script: &str,
+        steps: u64,
         stops: bool,
     ) -> Result<Ended, Stop>
         requires ready { IsReady (H.view host.old) self.old }
-        ensures moments { OfTrace script.now stops (database_in self.old)
+        ensures moments { OfTrace script.now steps stops (session_in self.old)
             (λ events. RunsAlong (H.view host.old) (H.view host.new) events
             (database_in self.old)) }
-        ensures done { OfTrace script.now stops (database_in self.old)
+        ensures done { OfTrace script.now steps stops (session_in self.old)
             (λ events. OnOk result
             (GoesOn (H.view host.old) (H.view host.new) self.old self.new events)) }
-        ensures ended { OfTrace script.now stops (database_in self.old)
+        ensures ended { OfTrace script.now steps stops (session_in self.old)
             (λ events. IfOk result (λ ended. ended ≡ ended_of (stops && is_failed events))) }
         ensures ready { OnOk result (IsReady (H.view host.new) self.new) }
+        ensures session { OnOk result
+            (LeadsTo script.now steps stops (session_in self.old) (session_in self.new)) }
         ensures short { OnOk result (StaysShort self.new.keeper host.old host.new) }
-        ensures cause { IfErr result
-            (StopsBy (H.view host.old) (H.view host.new) script.now stops (database_in self.old)) }
+        ensures cause { IfErr result (StopsBy (H.view host.old) (H.view host.new)
+            script.now steps stops (session_in self.old)) }
     {
         let mut at = 0;
         'pieces: loop {
             let Some(next) = read_next(self.alloc, script, at)? else {
                 return Ok(Ended::Whole);
             };
-            let failed = self.run_piece(host, next.reading)?;
+            let failed = self.run_piece(host, next.reading, steps)?;
             if ends_at(stops, failed) {
                 return Ok(Ended::AtError);
             }
@@ -242,85 +215,98 @@ impl SessionState {
         }
     }
 
-    /// Runs one command, and prints its answer once it is committed. A text of several commands is
-    /// run up to its first error.
+    /// Runs one command, in so many steps at the most, and prints its answer once it is committed.
+    /// A text of several commands is run up to its first error, and each of them may take so many
+    /// steps.
     ///
     /// After each command's reply the whole database is written anew into the other area, where
     /// that is due, and this may fail too.
     ///
     /// `Closed` comes where the session had stopped before; then nothing is done. `Stopped` comes
     /// where a call of the host failed or there was no memory; the session is closed from then on.
-    pub fn run_command<H: Host>(&mut self, host: &mut H, text: &str) -> Result<Outcome, Halt>
+    pub fn run_command<H: Host>(
+        &mut self,
+        host: &mut H,
+        text: &str,
+        steps: u64,
+    ) -> Result<Outcome, Halt>
         requires ready { self.old.failed ≡ None → IsReady (H.view host.old) self.old }
 
         // At every moment what was printed and what a crash leaves go along the command's events.
-        ensures moments { OfTrace text.now true (database_in self.old)
+        ensures moments { OfTrace text.now steps true (session_in self.old)
             (λ events. RunsAlong (H.view host.old) (H.view host.new) events
             (database_in self.old)) }
 
-        // After Ok they are done, the session is ready for the next command, and the answer says
-        // whether one failed.
-        ensures done { OfTrace text.now true (database_in self.old)
+        // After Ok they are done, the session is ready for the next command, and is the one to
+        // which this command leads. The answer says whether one failed.
+        ensures done { OfTrace text.now steps true (session_in self.old)
             (λ events. OnOk result
             (GoesOn (H.view host.old) (H.view host.new) self.old self.new events)) }
         ensures ready_again { OnOk result (IsReady (H.view host.new) self.new) }
+        ensures session { OnOk result
+            (LeadsTo text.now steps true (session_in self.old) (session_in self.new)) }
 
         // No checkpoint is due then, or nothing was done, since there was no command.
         ensures short { OnOk result (StaysShort self.new.keeper host.old host.new) }
-        ensures outcome { OfTrace text.now true (database_in self.old)
+        ensures outcome { OfTrace text.now steps true (session_in self.old)
             (λ events. IfOk result (λ outcome. outcome ≡ outcome_of (is_failed events))) }
 
         // Each other answer has its cause, and one comes from a session that had stopped.
         ensures cause { IfErr result
-            (HasCause H.view host.old host.new self.old self.new text.now true) }
+            (HasCause H.view host.old host.new self.old self.new text.now steps true) }
         ensures closed { (why : Stop) → self.old.failed ≡ Some why → IsErrOf result (Closed why) }
     {
-        match self.run_script(host, text, true) {
+        match self.run_script(host, text, steps, true) {
             Ok(Ended::Whole) => Ok(Outcome::Fine),
             Ok(Ended::AtError) => Ok(Outcome::Errored),
             Err(halt) => Err(halt),
         }
     }
 
-    /// Runs the commands of a script in order. Where it stops on errors, the first command that
-    /// gets one is the last that runs, and the answer is `AtError`.
+    /// Runs the commands of a script in order, each in so many steps at the most. Where it stops on
+    /// errors, the first command that gets one is the last that runs, and the answer is `AtError`.
     ///
     /// `Closed` and `Stopped` come as for `run_command`.
     pub fn run_script<H: Host>(
         &mut self,
         host: &mut H,
         script: &str,
+        steps: u64,
         stops_on_error: bool,
     ) -> Result<Ended, Halt>
         requires ready { self.old.failed ≡ None → IsReady (H.view host.old) self.old }
 
         // At every moment what was printed and what a crash leaves go along the script's events.
-        ensures moments { OfTrace script.now stops_on_error (database_in self.old)
+        ensures moments { OfTrace script.now steps stops_on_error (session_in self.old)
             (λ events. RunsAlong (H.view host.old) (H.view host.new) events
             (database_in self.old)) }
 
-        // After Ok they are done, and the session is ready for the next script. It ends at an error
-        // exactly where it stops on errors and one failed.
-        ensures done { OfTrace script.now stops_on_error (database_in self.old)
+        // After Ok they are done, and the session is ready for the next script, and is the one to
+        // which this script leads. It ends at an error exactly where it stops on errors and one
+        // failed.
+        ensures done { OfTrace script.now steps stops_on_error (session_in self.old)
             (λ events. OnOk result
             (GoesOn (H.view host.old) (H.view host.new) self.old self.new events)) }
         ensures ready_again { OnOk result (IsReady (H.view host.new) self.new) }
+        ensures session { OnOk result
+            (LeadsTo script.now steps stops_on_error (session_in self.old) (session_in self.new)) }
 
         // No checkpoint is due then, or nothing was done, since there was no command.
         ensures short { OnOk result (StaysShort self.new.keeper host.old host.new) }
-        ensures ended { OfTrace script.now stops_on_error (database_in self.old)
+        ensures ended { OfTrace script.now steps stops_on_error (session_in self.old)
             (λ events. IfOk result
             (λ ended. ended ≡ ended_of (stops_on_error && is_failed events))) }
 
         // Each other answer has its cause, and one comes from a session that had stopped.
         ensures cause { IfErr result
-            (HasCause H.view host.old host.new self.old self.new script.now stops_on_error) }
+            (HasCause H.view host.old host.new self.old self.new
+            script.now steps stops_on_error) }
         ensures closed { (why : Stop) → self.old.failed ≡ Some why → IsErrOf result (Closed why) }
     {
         if let Some(why) = self.failed {
             return Err(Halt::Closed(why));
         }
-        match self.run_pieces(host, script, stops_on_error) {
+        match self.run_pieces(host, script, steps, stops_on_error) {
             Ok(ended) => Ok(ended),
             Err(stop) => {
                 self.failed = Some(stop);

@@ -8,9 +8,9 @@ use Rattle.pl_session.specs.Starts.{HasStartCause}
 use Rattle.pl_session.specs.declared.halt.StartFail.{StartFail}
 use Rattle.pl_session.specs.Endings.{Done}
 use Rattle.pl_session.specs.Lent.{area_on}
-use Rattle.pl_session.specs.State.{database_in}
+use Rattle.pl_session.specs.State.{database_in, session_in}
 use Rattle.pl_cli.specs.Covers.{CoveredRun}
-use Rattle.pl_cli.specs.Line.{Asked, asked}
+use Rattle.pl_cli.specs.Line.{asked}
 use Rattle.pl_cli.specs.Lines.{asked_in}
 use Rattle.pl_cli.specs.Parts.{SaysLast, ScriptEnd}
 use Rattle.pl_cli.specs.Printed.{damage_line, refusal_line}
@@ -18,12 +18,13 @@ use Rattle.pl_cli.specs.declared.ending.Ending.TheVariants.{Whole, AtError, Memo
 use Rattle.pl_cli.specs.declared.ending.Ending.{Ending}
 use Rattle.pl_disk.specs.Disk.{Runs}
 use Rattle.pl_meaning.specs.Covered.{AlongFrom}
-use Rattle.pl_meaning.specs.Meaning.{IsTrace}
+use Rattle.pl_session.specs.Traces.{IsTrace}
+use Rattle.pl_world.specs.Sessions.{new_session}
 use Rattle.pl_base.specs.Image.{Image}
 use Rattle.pl_cli.specs.Runs.{AttachesScript, HasCause, IsEarly, OnlySays, Over}
 use Rattle.pl_cli.specs.Script.{IsRefusedAt, script_text}
 use Rattle.pl_cli.proofs.Covering.{done_since, idle_covers, not_begun, only_started, same_database, start_covers, then_covers}
-use Rattle.pl_cli.proofs.Runs.{area_said, cause_of, done_by, ended_not_memory, ended_not_say, first_since, none_printed, not_disk, not_memory, not_read, not_run, not_usage, one_asked, prints_since, prints_whole, refused_due, same_damage, says_along, says_done, says_nothing, tells_at, tells_cause, tells_early, tells_only, tells_place, trace_of, was_run}
+use Rattle.pl_cli.proofs.Runs.{area_said, begun, cause_of, done_by, ended_not_memory, ended_not_say, front_since, none_printed, not_disk, not_memory, not_read, not_run, not_usage, one_asked, prints_since, prints_whole, refused_due, same_damage, says_along, says_done, says_nothing, tells_at, tells_cause, tells_early, tells_only, tells_place, trace_of, was_run}
 use Rattle.pl_cli.proofs.Traces.{none_yet}
 use Rattle.pl_cli.proofs.program.run.Goals as goal
 
@@ -126,16 +127,16 @@ returns-in-Err-Damaged-clause-spare g c is told =
 pub returns-in-Err-Memory-start-clause-memory : goal.returns-in-Err-Memory-start-clause-memory
 returns-in-Err-Memory-start-clause-memory g c is db events over =
     let now = c.start.ensures.moments.continues.told over.told in
-    ⊎_elim (λ none. inl none) (λ done. inr ([], none_yet _ _ _, done))
+    ⊎_elim (λ none. inl none) (λ done. inr ([], none_yet _ _ _ _, done))
     (not_begun _ _ _ (g.met.H.Disk.lawful c.args.host.now over.told) over.told c.start.ensures.moments (c.start.ensures.settled over.told) db (g.met.H.Disk.lawful c.start.new.host now) over.opened
     (c.start.ensures.printed over.told))
 
 pub returns-in-Err-Memory-read_script-clause-memory : goal.returns-in-Err-Memory-read_script-clause-memory
 returns-in-Err-Memory-read_script-clause-memory g c is db events over =
-    inr ([], none_yet _ _ _, only_started _ _ _ db c.in-Ok-start.ensures.started over.told (c.start.ensures.moments.continues.told over.told) over.opened (c.start.ensures.printed over.told))
+    inr ([], none_yet _ _ _ _, only_started _ _ _ db c.in-Ok-start.ensures.started over.told (c.start.ensures.moments.continues.told over.told) over.opened (c.start.ensures.printed over.told))
 
 pub returns-in-Err-Disk-clause-disk : goal.returns-in-Err-Disk-clause-disk
-returns-in-Err-Disk-clause-disk g c is db events over = none_printed (g.H.Disk.view c.args.host.now) (g.H.Disk.view c.start.new.host) _ _ db c.start.ensures.printed
+returns-in-Err-Disk-clause-disk g c is db events over = none_printed (g.H.Disk.view c.args.host.now) (g.H.Disk.view c.start.new.host) _ _ _ (new_session db) c.start.ensures.printed
 
 pub returns-in-Err-Refused-clause-disk : goal.returns-in-Err-Refused-clause-disk
 returns-in-Err-Refused-clause-disk g c is db events over =
@@ -154,7 +155,7 @@ returns-in-Err-Refused-clause-covered g c db events over =
     let opened : (i : Image) → b.told → b.may_leave i → opens i ≡ Ok db = λ i now left. started.ready.opens_to now i left ∙ sym (started.opened over.told) ∙ over.opened in
     ⊎_elim
     (λ (says : SaysLast (refusal_line at) Refused b d c.say_refusal.result).
-    subst (λ (l : List Event). CoveredRun a d l db) (refused_due over.script over.line.stops_on_error db events at read over.due)
+    subst (λ (l : List Event). CoveredRun a d l db) (refused_due over.script over.line.steps over.line.stops_on_error db events at read over.due)
     (then_covers a b c.in-Ok.line.store.now lawful over.told c.start.ensures.moments (c.start.ensures.settled over.told) d (Said (refusal_line at) ∷ []) db over.opened (c.start.ensures.printed over.told) (started.synced over.told)
     (says_along b d (refusal_line at) Refused c.say_refusal.result db says (λ now i left. opened i now left))))
     (λ (none : (c.say_refusal.result ≡ Memory) × (c.say_refusal.new.host ≡ c.start.new.host)).
@@ -175,7 +176,7 @@ returns-in-Err-Refused-clause-spare g c is told =
 
 pub returns-clause-spare : goal.returns-clause-spare
 returns-clause-spare g c is told =
-    absurd (was_run c.run_commands.result _ _ _ _ _ c.run_commands.ensures.ended (subst (λ (e : Ending). (e ≡ Source) ⊎ (e ≡ Refused)) c.of-2.ensures.ending is))
+    absurd (was_run c.run_commands.result _ _ _ _ _ _ c.run_commands.ensures.ended (subst (λ (e : Ending). (e ≡ Source) ⊎ (e ≡ Refused)) c.of-2.ensures.ending is))
 
 pub returns-in-Err-Damaged-clause-short : goal.returns-in-Err-Damaged-clause-short
 returns-in-Err-Damaged-clause-short g c ended told i left =
@@ -215,7 +216,7 @@ returns-in-Err-Refused-clause-done g c ended db events over =
     let end = subst (λ (e : Ending). (e ≡ Whole) ⊎ ((e ≡ AtError) ⊎ (e ≡ Refused))) c.of-in-Err-Refused.ensures.ending ended in
     ⊎_elim
     (λ (says : SaysLast (refusal_line at) Refused b d c.say_refusal.result).
-    subst (λ (l : List Event). Done a d l db) (refused_due over.script over.line.stops_on_error db events at read over.due)
+    subst (λ (l : List Event). Done a d l db) (refused_due over.script over.line.steps over.line.stops_on_error db events at read over.due)
     (done_since a b d (Said (refusal_line at) ∷ []) db db refl (c.start.ensures.printed over.told)
     (says_done b d (refusal_line at) Refused c.say_refusal.result db says now (ended_not_say c.say_refusal.result end) opened)))
     (λ (none : (c.say_refusal.result ≡ Memory) × (c.say_refusal.new.host ≡ c.start.new.host)). absurd (ended_not_memory c.say_refusal.result end none.0))
@@ -225,7 +226,7 @@ pub returns-in-Err-Refused-clause-memory : goal.returns-in-Err-Refused-clause-me
 returns-in-Err-Refused-clause-memory g c is db events over =
     let done = only_started _ _ _ db c.in-Ok-start.ensures.started over.told (c.start.ensures.moments.continues.told over.told) over.opened (c.start.ensures.printed over.told) in
     ⊎_elim (λ says. absurd (not_memory _ _ (sym c.of-in-Err-Refused.ensures.ending ∙ is) says.known))
-    (λ none. inr ([], none_yet _ _ _, subst (λ h. Done (g.H.Disk.view c.args.host.now) (g.H.Disk.view h) [] db) (sym none.1) done))
+    (λ none. inr ([], none_yet _ _ _ _, subst (λ h. Done (g.H.Disk.view c.args.host.now) (g.H.Disk.view h) [] db) (sym none.1) done))
     c.say_refusal.ensures
 
 pub returns-clause-cause : goal.returns-clause-cause
@@ -237,17 +238,18 @@ returns-clause-cause g c =
     let left = g.S.Source.left c.args.source.now in
     let line = asked_in c.in-Ok.line in
     let text = c.without_mark-text.result.now in
+    let s = session_in c.in-Ok-start.state in
     let found = database_in c.in-Ok-start.state in
     let started = c.in-Ok-start.ensures.started in
     let first = c.start.ensures.moments.continues in
     let later = c.run_commands.ensures.continues in
-    let traced : (db : Database) (events : List Event) (over : Over words a left db events) → IsTrace text line.stops_on_error found events = λ db events over.
+    let traced : (db : Database) (events : List Event) (over : Over words a left db events) → IsTrace text line.steps line.stops_on_error s events = λ db events over.
     let same : found ≡ db = same_database (opens a.seen) found db (started.opened over.told) over.opened in
     let read = c.in-Ok-read_script.ensures.read over.script over.reads in
     let is_text : text ≡ script_text over.script = c.without_mark-text.ensures ∙ ap script_text (c.deref.ensures ∙ read.0) in
-    trace_of words a left db found events over line text c.in-Ok.ensures.line same read.2 is_text in
+    trace_of words a left db s events over line text c.in-Ok.ensures.line (begun a b c.in-Ok-start.state db started same) read.2 is_text in
     subst (λ (e : Ending). HasCause e words a d left (g.S.Source.faults c.args.source.now) (g.S.Source.faults c.read_script.new.source)) (sym c.of-2.ensures.ending)
-    (cause_of c.run_commands.result words a b d left _ _ text line found c.run_commands.ensures.ended c.in-Ok.ensures.line
+    (cause_of c.run_commands.result words a b d left _ _ text line s c.run_commands.ensures.ended c.in-Ok.ensures.line
     (λ told. (found, started.opened told)) (λ script is. (c.in-Ok-read_script.ensures.read script is).2) traced
     first.disk_faults later.disk_faults first.say_faults later.say_faults)
 
@@ -260,12 +262,13 @@ returns-clause-covered g c db events over =
     let left = g.S.Source.left c.args.source.now in
     let line = asked_in c.in-Ok.line in
     let text = c.without_mark-text.result.now in
+    let s = session_in c.in-Ok-start.state in
     let found = database_in c.in-Ok-start.state in
     let started = c.in-Ok-start.ensures.started in
     let same : found ≡ db = same_database (opens a.seen) found db (started.opened over.told) over.opened in
     let read = c.in-Ok-read_script.ensures.read over.script over.reads in
     let is_text : text ≡ script_text over.script = c.without_mark-text.ensures ∙ ap script_text (c.deref.ensures ∙ read.0) in
-    let traced = trace_of words a left db found events over line text c.in-Ok.ensures.line same read.2 is_text in
+    let traced = trace_of words a left db s events over line text c.in-Ok.ensures.line (begun a b c.in-Ok-start.state db started same) read.2 is_text in
     then_covers a b c.in-Ok.line.store.now (g.met.H.Disk.lawful c.args.host.now over.told) over.told c.start.ensures.moments (c.start.ensures.settled over.told) d events db over.opened (c.start.ensures.printed over.told) (started.synced over.told)
     (subst (λ (e : Database). Runs b d (AlongFrom b.printed events e)) same (c.run_commands.ensures.moments events traced))
 
@@ -278,14 +281,15 @@ returns-clause-done g c ended db events over =
     let left = g.S.Source.left c.args.source.now in
     let line = asked_in c.in-Ok.line in
     let text = c.without_mark-text.result.now in
+    let s = session_in c.in-Ok-start.state in
     let found = database_in c.in-Ok-start.state in
     let started = c.in-Ok-start.ensures.started in
     let same : found ≡ db = same_database (opens a.seen) found db (started.opened over.told) over.opened in
     let read = c.in-Ok-read_script.ensures.read over.script over.reads in
     let is_text : text ≡ script_text over.script = c.without_mark-text.ensures ∙ ap script_text (c.deref.ensures ∙ read.0) in
-    let traced = trace_of words a left db found events over line text c.in-Ok.ensures.line same read.2 is_text in
+    let traced = trace_of words a left db s events over line text c.in-Ok.ensures.line (begun a b c.in-Ok-start.state db started same) read.2 is_text in
     done_since a b d events found db same (c.start.ensures.printed over.told)
-    (done_by c.run_commands.result b d text line.stops_on_error found events c.run_commands.ensures.ended (c.start.ensures.moments.continues.told over.told)
+    (done_by c.run_commands.result b d text line.steps line.stops_on_error s events c.run_commands.ensures.ended (c.start.ensures.moments.continues.told over.told)
     (subst (λ (e : Ending). (e ≡ Whole) ⊎ ((e ≡ AtError) ⊎ (e ≡ Refused))) c.of-2.ensures.ending ended) traced)
 
 pub returns-clause-disk : goal.returns-clause-disk
@@ -295,15 +299,16 @@ returns-clause-disk g c is db events over =
     let d = g.H.Disk.view c.run_commands.new.host in
     let line = asked_in c.in-Ok.line in
     let text = c.without_mark-text.result.now in
+    let s = session_in c.in-Ok-start.state in
     let found = database_in c.in-Ok-start.state in
     let started = c.in-Ok-start.ensures.started in
     let same : found ≡ db = same_database (opens a.seen) found db (started.opened over.told) over.opened in
     let read = c.in-Ok-read_script.ensures.read over.script over.reads in
     let is_text : text ≡ script_text over.script = c.without_mark-text.ensures ∙ ap script_text (c.deref.ensures ∙ read.0) in
     let one : line ≡ over.line = one_asked (asked (map string_bytes c.args.words.now)) line over.line c.in-Ok.ensures.line over.asks in
-    prints_since a b d text (script_text over.script) line.stops_on_error over.line.stops_on_error found db is_text (ap (λ (l : Asked). l.stops_on_error) one) same
+    prints_since a b d text (script_text over.script) line over.line s (new_session db) is_text one (begun a b c.in-Ok-start.state db started same)
     c.start.ensures.printed (λ told. c.start.ensures.moments.continues.told told)
-    (prints_whole c.run_commands.result b d text line.stops_on_error found c.run_commands.ensures.ended (sym c.of-2.ensures.ending ∙ is))
+    (prints_whole c.run_commands.result b d text line.steps line.stops_on_error s c.run_commands.ensures.ended (sym c.of-2.ensures.ending ∙ is))
 
 pub returns-in-Err-Fault-clause-source : goal.returns-in-Err-Fault-clause-source
 returns-in-Err-Fault-clause-source g c is db told opened =
@@ -316,15 +321,16 @@ returns-clause-memory g c is db events over =
     let d = g.H.Disk.view c.run_commands.new.host in
     let line = asked_in c.in-Ok.line in
     let text = c.without_mark-text.result.now in
+    let s = session_in c.in-Ok-start.state in
     let found = database_in c.in-Ok-start.state in
     let started = c.in-Ok-start.ensures.started in
     let same : found ≡ db = same_database (opens a.seen) found db (started.opened over.told) over.opened in
     let read = c.in-Ok-read_script.ensures.read over.script over.reads in
     let is_text : text ≡ script_text over.script = c.without_mark-text.ensures ∙ ap script_text (c.deref.ensures ∙ read.0) in
     let one : line ≡ over.line = one_asked (asked (map string_bytes c.args.words.now)) line over.line c.in-Ok.ensures.line over.asks in
-    let ends = subst (λ (e : Ending). ScriptEnd e b d text line.stops_on_error found) (sym c.of-2.ensures.ending ∙ is) c.run_commands.ensures.ended in
+    let ends = subst (λ (e : Ending). ScriptEnd e b d text line.steps line.stops_on_error s) (sym c.of-2.ensures.ending ∙ is) c.run_commands.ensures.ended in
     inr (
       ends.0,
-      first_since text (script_text over.script) line.stops_on_error over.line.stops_on_error found db ends.0 is_text (ap (λ (l : Asked). l.stops_on_error) one) same ends.1,
+      front_since text (script_text over.script) line over.line s (new_session db) ends.0 is_text one (begun a b c.in-Ok-start.state db started same) ends.1,
       done_since a b d ends.0 found db same (c.start.ensures.printed over.told) (ends.2 (c.start.ensures.moments.continues.told over.told)),
     )

@@ -2,7 +2,7 @@ use Rattle.std.proofs.Common.{⊎_elim, ◌≡◌, ◌∙◌, Bool, true, false,
 use Rattle.pl_undo.specs.Database.{Database}
 use Rattle.pl_keeper.specs.Batches.{Damage}
 use Rattle.pl_session.specs.Endings.{ended_of}
-use Rattle.pl_session.specs.State.{database_in}
+use Rattle.pl_session.specs.State.{session_in}
 use Rattle.pl_session.specs.declared.halt.Ended.TheVariants.{Whole, AtError}
 use Rattle.pl_cli.proofs.Runs.{short_image}
 use Rattle.pl_cli.proofs.Traces.{some_trace}
@@ -40,28 +40,28 @@ returns-in-Ok-AtError-clause-ended g c events traced =
     )
 
 pub returns-in-Ok-Whole-clause-continues : goal.returns-in-Ok-Whole-clause-continues
-returns-in-Ok-Whole-clause-continues g c = let t = some_trace c.args.script.now c.args.stops (database_in c.args.state.now) in (c.run_script.ensures.moments t.0 t.1).continues
+returns-in-Ok-Whole-clause-continues g c = let t = some_trace c.args.script.now c.args.steps c.args.stops (session_in c.args.state.now) in (c.run_script.ensures.moments t.0 t.1).continues
 
 pub returns-in-Ok-AtError-clause-continues : goal.returns-in-Ok-AtError-clause-continues
-returns-in-Ok-AtError-clause-continues g c = let t = some_trace c.args.script.now c.args.stops (database_in c.args.state.now) in (c.run_script.ensures.moments t.0 t.1).continues
+returns-in-Ok-AtError-clause-continues g c = let t = some_trace c.args.script.now c.args.steps c.args.stops (session_in c.args.state.now) in (c.run_script.ensures.moments t.0 t.1).continues
 
 pub returns-in-Err-Stopped-Disk-clause-continues : goal.returns-in-Err-Stopped-Disk-clause-continues
-returns-in-Err-Stopped-Disk-clause-continues g c = let t = some_trace c.args.script.now c.args.stops (database_in c.args.state.now) in (c.run_script.ensures.moments t.0 t.1).continues
+returns-in-Err-Stopped-Disk-clause-continues g c = let t = some_trace c.args.script.now c.args.steps c.args.stops (session_in c.args.state.now) in (c.run_script.ensures.moments t.0 t.1).continues
 
 pub returns-in-Err-Stopped-Say-clause-continues : goal.returns-in-Err-Stopped-Say-clause-continues
-returns-in-Err-Stopped-Say-clause-continues g c = let t = some_trace c.args.script.now c.args.stops (database_in c.args.state.now) in (c.run_script.ensures.moments t.0 t.1).continues
+returns-in-Err-Stopped-Say-clause-continues g c = let t = some_trace c.args.script.now c.args.steps c.args.stops (session_in c.args.state.now) in (c.run_script.ensures.moments t.0 t.1).continues
 
 pub returns-in-Err-Stopped-Memory-clause-continues : goal.returns-in-Err-Stopped-Memory-clause-continues
-returns-in-Err-Stopped-Memory-clause-continues g c = let t = some_trace c.args.script.now c.args.stops (database_in c.args.state.now) in (c.run_script.ensures.moments t.0 t.1).continues
+returns-in-Err-Stopped-Memory-clause-continues g c = let t = some_trace c.args.script.now c.args.steps c.args.stops (session_in c.args.state.now) in (c.run_script.ensures.moments t.0 t.1).continues
 
 pub returns-in-Ok-Whole-clause-short : goal.returns-in-Ok-Whole-clause-short
 returns-in-Ok-Whole-clause-short g c is told i left =
-    let t = some_trace c.args.script.now c.args.stops (database_in c.args.state.now) in
+    let t = some_trace c.args.script.now c.args.steps c.args.stops (session_in c.args.state.now) in
     short_image (g.H.Disk.view c.run_script.new.host) c.run_script.new.self c.args.host.now c.run_script.new.host c.in-Ok-Whole.ensures.ready_again ((c.run_script.ensures.moments t.0 t.1).continues.told told) c.in-Ok-Whole.ensures.short i left
 
 pub returns-in-Ok-AtError-clause-short : goal.returns-in-Ok-AtError-clause-short
 returns-in-Ok-AtError-clause-short g c is told i left =
-    let t = some_trace c.args.script.now c.args.stops (database_in c.args.state.now) in
+    let t = some_trace c.args.script.now c.args.steps c.args.stops (session_in c.args.state.now) in
     short_image (g.H.Disk.view c.run_script.new.host) c.run_script.new.self c.args.host.now c.run_script.new.host c.in-Ok-AtError.ensures.ready_again ((c.run_script.ensures.moments t.0 t.1).continues.told told) c.in-Ok-AtError.ensures.short i left
 
 pub returns-in-Err-Stopped-Disk-clause-short : goal.returns-in-Err-Stopped-Disk-clause-short

@@ -3,11 +3,11 @@ use Rattle.std.specs.Prelude.{is_some}
 use Rattle.pl_codec.specs.Reading.{operations_of}
 use Rattle.pl_journal.specs.Operation.{apply_payload, empty}
 use Rattle.pl_session.specs.Steps.{KeepCause}
-use Rattle.pl_session.specs.declared.halt.Stop.{Stop}
-use Rattle.pl_session.specs.declared.halt.Stop.TheVariants.{Memory}
+use Rattle.pl_engine.specs.declared.stop.Stop.{Stop}
+use Rattle.pl_engine.specs.declared.stop.Stop.TheVariants.{Memory}
 use Rattle.pl_session.proofs.Ends.{if_err}
 use Rattle.pl_session.proofs.Kept.{has_next, next_short, no_writes, rewrites, rewritten}
-use Rattle.pl_session.proofs.Opens.{applied, spelled_by}
+use Rattle.pl_port.proofs.Opens.{applied, spelled_by}
 use Rattle.pl_session.proofs.keeping.keep_short.Goals as goal
 
 pub returns-then-not-due-clause-writes : goal.returns-then-not-due-clause-writes

@@ -41,6 +41,9 @@ batches-preserved g c =
 pub returns-in_default-clause-settled : goal.returns-in_default-clause-settled
 returns-in_default-clause-settled g c = c.batches.invariant.settled
 
+pub returns-in_default-clause-unmarked : goal.returns-in_default-clause-unmarked
+returns-in_default-clause-unmarked g c = c.batches.invariant.unmarked
+
 pub returns-in_default-clause-folded : goal.returns-in_default-clause-folded
 returns-in_default-clause-folded g c told =
     let before = c.batches.invariant.looks.continues.told told in

@@ -1,0 +1,9 @@
+mod Assigned
+mod Ended
+mod Entered
+mod Kept
+mod Left
+mod Over
+mod Placed
+mod Turns
+mod Wrote

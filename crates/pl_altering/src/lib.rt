@@ -1,0 +1,18 @@
+//! INSERT, UPDATE and DELETE, as commands and as statements of bodies. Their expressions may call
+//! routines, so a change goes row by row, over copies of what its rows read.
+#![tactic(auto)]
+
+mod altering;
+mod assigning;
+mod changing;
+mod command;
+mod keeping;
+mod moment;
+mod reading;
+mod resolving;
+mod rows;
+mod running;
+mod showing;
+
+pub use altering::alter;
+pub use changing::change;

@@ -1,0 +1,6 @@
+mod Alone
+mod Bodies
+mod Defined
+mod Mapped
+mod Resolves
+mod Using

@@ -1,0 +1,33 @@
+use Rattle.std.proofs.Common.{Err, Result, ap, refl, subst, sym}
+use Rattle.pl_command.proofs.Resolves.{found, refused}
+use Rattle.pl_command.proofs.changing.alter.Goals as goal
+use Rattle.pl_command.specs.Shown.{made_change}
+use Rattle.pl_engine.proofs.Joins.{answered, becomes, before, lawful}
+use Rattle.pl_engine.specs.Engines.{world}
+use Rattle.pl_engine.specs.Texts.{do_bodies}
+use Rattle.pl_targets.specs.declared.change.RChange.{RChange}
+use Rattle.pl_typing.specs.Resolved.{Gives}
+use Rattle.pl_typing.specs.declared.fail.ScopeFail.{ScopeFail}
+use Rattle.pl_world.specs.Resolving.{changing}
+use Rattle.pl_world.specs.Sessions.{top}
+use Rattle.pl_world.specs.Statements.{runner_for}
+
+pub returns-in-Ok-clause-is : goal.returns-in-Ok-clause-is
+returns-in-Ok-clause-is g c =
+    let law = lawful g.P.Port g.met.P.Port.none g.met.P.Port.joins g.met.P.Port.rises in
+    let w = world c.args.engine.now in
+    let k = λ (x : RChange). made_change (runner_for do_bodies c.args.calls.now.room) x w in
+    let meaning = changing c.args.c.now w.database.objects w.frame.static in
+    answered law _ _ _ (becomes law (found meaning top k law c.requires.fits c.in-Ok.resolved c.in-Ok.ensures) (ap k (sym c.get.ensures))) c.change_rows.ensures.is
+
+pub returns-in-Err-State-clause-is : goal.returns-in-Err-State-clause-is
+returns-in-Err-State-clause-is g c =
+    let law = lawful g.P.Port g.met.P.Port.none g.met.P.Port.joins g.met.P.Port.rises in
+    let w = world c.args.engine.now in
+    let k = λ (x : RChange). made_change (runner_for do_bodies c.args.calls.now.room) x w in
+    let meaning = changing c.args.c.now w.database.objects w.frame.static in
+    let is = subst (λ (f : ScopeFail). let x : Result RChange ScopeFail = Err f in Gives x meaning) c.in-Err-State.field-0-is c.in-Err-State.ensures in
+    refused meaning top k law c.requires.fits c.in-Err-State.state c.fails.result is c.fails.ensures
+
+pub returns-in-Err-Memory-clause-is : goal.returns-in-Err-Memory-clause-is
+returns-in-Err-Memory-clause-is g c = before (lawful g.P.Port g.met.P.Port.none g.met.P.Port.joins g.met.P.Port.rises) refl

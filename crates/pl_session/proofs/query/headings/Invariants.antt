@@ -1,6 +1,0 @@
-use Rattle.std.proofs.Common.{◌≡◌, map, take}
-use Rattle.pl_meaning.specs.Selection.{heading}
-use Rattle.pl_session.proofs.query.headings.Given as goal
-
-abbrev pub invariant-loop-head : goal.invariant-loop-head
-invariant-loop-head l = l.made ≡ map heading (take l.head-index l.heads)

@@ -1,6 +1,0 @@
-use Rattle.std.proofs.Common.{◌≡◌, map, take}
-use Rattle.pl_meaning.specs.Selection.{type_in}
-use Rattle.pl_session.proofs.query.types.Given as goal
-
-abbrev pub invariant-loop-head : goal.invariant-loop-head
-invariant-loop-head l = l.made ≡ map type_in (take l.head-index l.heads)
