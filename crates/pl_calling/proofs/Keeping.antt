@@ -9,8 +9,8 @@ use Rattle.pl_engine.proofs.Joins.{outward-append, stepped_in-append}
 use Rattle.pl_engine.specs.Engines.{Kept, stepped_in}
 use Rattle.pl_engine.specs.Holding.{HoldsMore, said}
 use Rattle.pl_engine.specs.Texts.{do_bodies}
-use Rattle.pl_meaning.specs.Trace as trace
-use Rattle.pl_meaning.specs.Trace.{last_commit}
+use Rattle.pl_world.specs.Trace as trace
+use Rattle.pl_world.specs.Trace.{last_commit}
 use Rattle.pl_natural.specs.Kept.{ReadsKept, kept}
 use Rattle.pl_undo.specs.Database.{Database}
 use Rattle.pl_value.specs.Reading.{Reading, got, fails}

@@ -7,7 +7,7 @@ use Rattle.pl_calling.specs.Reading.{no_rows}
 use Rattle.pl_calling.specs.Standing.{Standing, calls_kept, fresh, keep}
 use Rattle.pl_engine.specs.Texts.{do_bodies}
 use Rattle.pl_journal.specs.Rows.{tables_of}
-use Rattle.pl_meaning.specs.Selection.{last_of}
+use Rattle.pl_world.specs.Selection.{last_of}
 use Rattle.pl_natural.proofs.Parts.{values_agree}
 use Rattle.pl_natural.proofs.Rows.{rows_agree}
 use Rattle.pl_natural.proofs.Told.{told}

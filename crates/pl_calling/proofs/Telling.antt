@@ -18,8 +18,8 @@ use Rattle.pl_engine.specs.declared.engine.Engine.{Engine}
 use Rattle.pl_engine.specs.declared.port.Port.{Ghosts}
 use Rattle.pl_engine.specs.declared.stop.Stop.{Stop}
 use Rattle.pl_engine.specs.declared.stop.Stop.TheVariants.{Memory}
-use Rattle.pl_meaning.specs.Trace as trace
-use Rattle.pl_meaning.specs.Trace.{last_commit}
+use Rattle.pl_world.specs.Trace as trace
+use Rattle.pl_world.specs.Trace.{last_commit}
 use Rattle.pl_scope.specs.declared.resolve.ResolvedExpr.{ResolvedExpr}
 use Rattle.pl_undo.specs.Database.{Database}
 use Rattle.pl_value.specs.Frames.{Row}

@@ -8,7 +8,7 @@ use Rattle.pl_engine.specs.Answers.{Cut}
 use Rattle.pl_engine.specs.Engines.{stepped_in}
 use Rattle.pl_engine.specs.declared.port.Port.{Ghosts}
 use Rattle.pl_engine.specs.declared.stop.Stop.{Stop}
-use Rattle.pl_meaning.specs.Trace as trace
+use Rattle.pl_world.specs.Trace as trace
 use Rattle.pl_natural.specs.Kept.{ReadsKept}
 use Rattle.pl_undo.specs.Database.{Database}
 use Rattle.pl_value.specs.Reading.{Reading}

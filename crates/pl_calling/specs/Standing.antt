@@ -7,7 +7,7 @@ use Rattle.pl_engine.specs.Engines.{Kept, stepped_in}
 use Rattle.pl_engine.specs.Holding.{said}
 use Rattle.pl_engine.specs.Texts.{do_bodies}
 use Rattle.pl_journal.specs.Operation.{empty}
-use Rattle.pl_meaning.specs.Trace as trace
+use Rattle.pl_world.specs.Trace as trace
 use Rattle.pl_value.specs.Meaning.{Calls}
 use Rattle.pl_value.specs.Reading.{Reading, got, fails}
 use Rattle.pl_world.specs.Calls.{Within, called_by_name, void}

@@ -3,7 +3,7 @@
 ghost use Rattle.std.specs.Prelude.{◌≡◌, [], ◌∷◌, ◌++◌, map, IfOk, OnOk};
 ghost use Rattle.pl_calling.specs.Reading.{no_rows};
 ghost use Rattle.pl_engine.specs.Engines.{world};
-ghost use Rattle.pl_meaning.specs.Selection as spec;
+ghost use Rattle.pl_world.specs.Selection as spec;
 ghost use Rattle.pl_query.specs.Query.{rows};
 ghost use Rattle.pl_value.specs.Answers.{Reads};
 ghost use Rattle.pl_value.specs.Meaning as meaning;

@@ -9,10 +9,10 @@ use Rattle.pl_disk.specs.Lent.{each, from_call, goes_on, runs_on, since_attach, 
 use Rattle.pl_disk.specs.declared.device.Failed.{Failed}
 use Rattle.pl_keeper.specs.Batches.{Damage}
 use Rattle.pl_keeper.specs.Store.{Has, KeepsFile}
-use Rattle.pl_meaning.specs.Covered.{AlongFrom}
+use Rattle.pl_world.specs.Covered.{AlongFrom}
 use Rattle.pl_undo.specs.Database.{Database}
-use Rattle.pl_meaning.specs.Opening.{opens}
-use Rattle.pl_meaning.specs.Trace.{Event, Said, is_failed, text as text_of}
+use Rattle.pl_world.specs.Opening.{opens}
+use Rattle.pl_world.specs.Trace.{Event, Said, is_failed, text as text_of}
 use Rattle.pl_session.specs.Starts.{IsStarted, StartPair}
 use Rattle.pl_session.specs.Traces.{AreFront, IsTrace}
 use Rattle.pl_world.specs.Sessions.{Session, new_session}

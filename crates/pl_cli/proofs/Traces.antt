@@ -1,9 +1,9 @@
 -- Each script has a trace, and none of its commands were run at first.
 use Rattle.std.proofs.Common.{ℕ, List, [], Bool, inl, refl}
 use Rattle.pl_lex.specs.Characters.{Text}
-use Rattle.pl_meaning.proofs.Lent.{readings_some}
+use Rattle.pl_world.proofs.Lent.{readings_some}
 use Rattle.pl_reading.specs.Computed.{script_readings}
-use Rattle.pl_meaning.specs.Trace.{Event}
+use Rattle.pl_world.specs.Trace.{Event}
 use Rattle.pl_session.specs.Traces.{AreFront, IsTrace, told_next, trace}
 use Rattle.pl_world.specs.Scripts.{script as script_events}
 use Rattle.pl_world.specs.Sessions.{Session}

@@ -1,7 +1,7 @@
 -- What the steps of a run do: the last line that it says, and the commands of its script.
 use Rattle.std.specs.Prelude.{◌≡◌, ◌≢◌, ◌⊎◌, ◌&&◌, ℕ, List, ◌++◌, Bool, true, false}
 use Rattle.pl_disk.specs.Disk.{View, Continues, Elapses, IsPrefix, Keeps, Rises}
-use Rattle.pl_meaning.specs.Trace.{Event, is_failed}
+use Rattle.pl_world.specs.Trace.{Event, is_failed}
 use Rattle.pl_session.specs.Endings.{Done, PrintsWhole}
 use Rattle.pl_session.specs.Traces.{AreFront, IsTrace}
 use Rattle.pl_world.specs.Sessions.{Session}

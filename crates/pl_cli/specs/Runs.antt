@@ -4,8 +4,8 @@ use Rattle.pl_base.specs.Image.{Image}
 use Rattle.pl_disk.specs.Disk.{View, IsPrefix, Rises, Untouched}
 use Rattle.pl_keeper.specs.Batches.{Damage}
 use Rattle.pl_undo.specs.Database.{Database}
-use Rattle.pl_meaning.specs.Opening.{opens}
-use Rattle.pl_meaning.specs.Trace.{Event, Said, is_failed}
+use Rattle.pl_world.specs.Opening.{opens}
+use Rattle.pl_world.specs.Trace.{Event, Said, is_failed}
 use Rattle.pl_session.specs.Endings.{Done}
 use Rattle.pl_session.specs.Traces.{AreFront, IsTrace}
 use Rattle.pl_world.specs.Sessions.{new_session}

@@ -5,8 +5,8 @@ ghost use Rattle.pl_disk.specs.Disk.{Continues, Runs, Settled, Untouched, with_a
 ghost use Rattle.pl_base.specs.Image.{Image};
 ghost use Rattle.pl_keeper.specs.Batches.{Damage, batches, spare_area};
 ghost use Rattle.pl_undo.specs.Database.{Database};
-ghost use Rattle.pl_meaning.specs.Opening.{opens};
-ghost use Rattle.pl_meaning.specs.Trace.{Event};
+ghost use Rattle.pl_world.specs.Opening.{opens};
+ghost use Rattle.pl_world.specs.Trace.{Event};
 ghost use Rattle.pl_session.specs.Endings.{Done, OfTrace, PrintsWhole, RunsAlong};
 ghost use Rattle.pl_session.specs.Short.{IsShort};
 ghost use Rattle.pl_session.specs.Spare.{KeepsArea};

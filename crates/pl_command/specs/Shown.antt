@@ -1,6 +1,6 @@
 -- Rows that are answered, and printed if they can be.
 use Rattle.std.specs.Prelude.{List, Some, None}
-use Rattle.pl_meaning.specs.Selection.{grid_of, heads_of}
+use Rattle.pl_world.specs.Selection.{grid_of, heads_of}
 use Rattle.pl_resolved.specs.declared.query.Head.{Head}
 use Rattle.pl_resolved.specs.declared.query.RQuery.{RQuery}
 use Rattle.pl_targets.specs.declared.change.RChange.{RChange}

@@ -5,7 +5,7 @@ ghost use Rattle.pl_command.specs.Shown.{made_change, shows_change};
 ghost use Rattle.pl_engine.specs.Answers.{Answers};
 ghost use Rattle.pl_engine.specs.Engines.{Quiet, kept, world};
 ghost use Rattle.pl_engine.specs.Texts.{do_bodies};
-ghost use Rattle.pl_meaning.specs.Changing as changing;
+ghost use Rattle.pl_world.specs.Changing as changing;
 ghost use Rattle.pl_world.specs.Sessions as spec;
 ghost use Rattle.pl_world.specs.Statements.{runner_for};
 

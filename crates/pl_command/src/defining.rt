@@ -3,7 +3,7 @@
 ghost use Rattle.std.specs.Prelude.{◌≡◌, OnOk};
 ghost use Rattle.pl_engine.specs.Answers.{Answers};
 ghost use Rattle.pl_engine.specs.Engines.{kept, world};
-ghost use Rattle.pl_meaning.specs.Meaning as meaning;
+ghost use Rattle.pl_world.specs.Meaning as meaning;
 ghost use Rattle.pl_reading.specs.Computed.{definition_in};
 ghost use Rattle.pl_reading.specs.Defining.{stored_by};
 ghost use Rattle.pl_world.specs.Commands.{defines};

@@ -2,7 +2,7 @@
 
 ghost use Rattle.std.specs.Prelude.{◌≡◌, map, IfOk};
 ghost use Rattle.std.specs.List.{list_any};
-ghost use Rattle.pl_meaning.specs.Selection as spec;
+ghost use Rattle.pl_world.specs.Selection as spec;
 
 use pl_base::{Cells, List, Memory, Txt, Ty, Value};
 use pl_calc::TEXT_LIMIT;

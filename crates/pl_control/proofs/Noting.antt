@@ -14,7 +14,7 @@ use Rattle.pl_engine.specs.declared.port.Port.{Ghosts}
 use Rattle.pl_engine.specs.declared.stop.Stop.{Stop}
 use Rattle.pl_journal.specs.Definitions.{Behind}
 use Rattle.pl_journal.specs.Definitions.{behind as leads}
-use Rattle.pl_meaning.specs.Replies.{notice_line}
+use Rattle.pl_world.specs.Replies.{notice_line}
 use Rattle.pl_print.specs.Messages.{condition_name, labelled, message_text, notice_bytes}
 use Rattle.pl_print.specs.declared.reply.Level.TheVariants.{Notice}
 use Rattle.pl_reading.specs.Defining.{stored_by}

@@ -6,7 +6,7 @@ use Rattle.pl_engine.specs.declared.engine.Engine.{Engine}
 use Rattle.pl_engine.specs.declared.port.Port.{Ghosts}
 use Rattle.pl_engine.specs.declared.stop.Stop.{Stop}
 use Rattle.pl_engine.specs.declared.stop.Stop.TheVariants.{Disk, Say, Memory}
-use Rattle.pl_meaning.specs.Trace as trace
+use Rattle.pl_world.specs.Trace as trace
 use Rattle.pl_undo.specs.Database.{Database}
 use Rattle.pl_world.specs.Laws.{events}
 use Rattle.pl_world.specs.Scripts.{outward}

@@ -1,7 +1,7 @@
 -- What is printed and held, with the laws by which it joins, since a port may not name proofs.
 use Rattle.std.specs.Prelude.{◌≡◌, ℕ, List, [], ◌++◌, map}
 use Rattle.std.proofs.Common.{append_assoc, append-nil, ap, sym, ◌∙◌}
-use Rattle.pl_meaning.specs.Trace.{Event, Said}
+use Rattle.pl_world.specs.Trace.{Event, Said}
 
 -- each piece is an event
 abbrev pub said : List (List ℕ) → List Event

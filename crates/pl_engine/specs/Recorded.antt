@@ -2,7 +2,7 @@
 use Rattle.std.specs.Prelude.{◌≡◌, ℕ, List, [], ◌∷◌, ◌++◌}
 use Rattle.pl_engine.specs.declared.recorder.Recorder.{Recorder}
 use Rattle.pl_journal.specs.Journal.{LeadsTo}
-use Rattle.pl_meaning.specs.Trace.{Committed, Event, Failed, Said}
+use Rattle.pl_world.specs.Trace.{Committed, Event, Failed, Said}
 use Rattle.pl_undo.specs.Database.{Database}
 
 -- what was printed, and the payload of each commit

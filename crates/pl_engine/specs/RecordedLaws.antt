@@ -2,7 +2,7 @@
 use Rattle.std.proofs.Common.{◌≡◌, ◌≤◌, ◌∙◌, ℕ, List, [], ◌∷◌, ◌++◌, arith, refl, subst}
 use Rattle.pl_engine.specs.Recorded.{Lead, Taken, Takes, with_lines, with_payload}
 use Rattle.pl_journal.specs.Journal.{LeadsTo}
-use Rattle.pl_meaning.specs.Trace.{Committed, Event, Failed, Said, last_commit}
+use Rattle.pl_world.specs.Trace.{Committed, Event, Failed, Said, last_commit}
 use Rattle.pl_undo.specs.Database.{Database}
 
 pub takes_join : (es fs : List Event) (db : Database) (a b c : Taken) → Takes es db a b → Takes fs (last_commit es db) b c → Takes (es ++ fs) db a c

@@ -3,7 +3,7 @@
 ghost use Rattle.std.specs.Prelude.{◌≤◌, ◌++◌, ◌∷◌, [], ℕ, List, OnOk, OnErr, IsErrOf};
 ghost use Rattle.pl_engine.specs.Faults.{Rose};
 ghost use Rattle.pl_engine.specs.declared.port.PortFail.TheVariants.{Memory};
-ghost use Rattle.pl_meaning.specs.Trace.{Event, Said, Committed, last_commit};
+ghost use Rattle.pl_world.specs.Trace.{Event, Said, Committed, last_commit};
 ghost use Rattle.pl_undo.specs.Database.{Database};
 
 use pl_journal::Journal;

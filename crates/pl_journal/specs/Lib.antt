@@ -7,3 +7,5 @@ pub mod Whole
 pub mod Written
 pub mod Journal
 pub mod Steps
+-- The bodies of the definitions that the journal holds.
+pub use Rattle.pl_define.specs.Bodies

@@ -5,7 +5,7 @@ use Rattle.pl_base.specs.declared.types.Ty.TheVariants as type
 use Rattle.pl_base.specs.declared.value.Value.TheVariants as value
 use Rattle.pl_catalog.specs.declared.object.Object.{Object}
 use Rattle.pl_catalog.specs.declared.object.Object.TheVariants as object
-use Rattle.pl_journal.specs.Operation.{empty}
+use Rattle.pl_change.specs.Operation.{empty}
 use Rattle.pl_print.specs.Tags.{tag_bytes}
 use Rattle.pl_print.specs.declared.reply.Tag.TheVariants.{CreateTable, Insert}
 use Rattle.pl_tables.specs.Rows.{inserted}

@@ -2,7 +2,7 @@
 -- and then its reply, a SELECT is its rows alone, and each command that fails is its error alone.
 use Rattle.std.specs.Prelude.{◌≡◌, ◌&&◌, List, [], ◌∷◌, ◌++◌, Bool, Option, Some, None, Ok, Err, if◌then◌else◌}
 use Rattle.pl_base.specs.declared.state.State.{State}
-use Rattle.pl_journal.specs.Definitions.{Behind, redefined}
+use Rattle.pl_change.specs.Definitions.{Behind, redefined}
 use Rattle.pl_lex.specs.Characters.{Text}
 use Rattle.pl_lex.specs.Lexemes.{Commands}
 use Rattle.pl_lex.specs.declared.token.Piece.{Piece}

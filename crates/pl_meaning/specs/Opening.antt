@@ -3,7 +3,7 @@ use Rattle.std.specs.Prelude.{List, [], ◌∷◌, ℕ, Result, Ok, Err, None, S
 use Rattle.pl_base.specs.Image.{Image}
 use Rattle.pl_base.specs.declared.area.Area.{Area}
 use Rattle.pl_keeper.specs.Batches.{Damage, Log, Stored, batches}
-use Rattle.pl_journal.specs.Operation.{apply_all, empty}
+use Rattle.pl_change.specs.Operation.{apply_all, empty}
 use Rattle.pl_undo.specs.Database.{Database}
 
 -- the database after the operations of these batches; or the place of the first of which one doesn't apply

@@ -21,7 +21,7 @@ use Rattle.pl_value.specs.Frames.{Frame, Row}
 use Rattle.pl_value.specs.NoRoutines.{unknown}
 use Rattle.pl_value.specs.Reading.{Reading, got, fails}
 use Rattle.pl_value.specs.declared.world.NoRoutines.{NoRoutines}
-use Rattle.pl_journal.specs.Rows.{tables_of}
+use Rattle.pl_change.specs.Rows.{tables_of}
 use Rattle.pl_meaning.specs.Replies.{error_line, limit_exceeded}
 use Rattle.pl_meaning.specs.Trace.{Event, Said, Failed}
 

@@ -2,7 +2,7 @@
 
 ghost use Rattle.std.specs.Prelude.{◌≡◌, [], ◌∷◌, codes, true, false, Some};
 ghost use Rattle.pl_base.specs.States.{UNDEFINED_TABLE};
-ghost use Rattle.pl_journal.specs.Operation.{empty};
+ghost use Rattle.pl_change.specs.Operation.{empty};
 ghost use Rattle.pl_meaning.specs.Covered.{at_least, at_most};
 ghost use Rattle.pl_meaning.specs.ExampleValues.{made, filled, both};
 ghost use Rattle.pl_meaning.specs.Meaning.{done};

@@ -17,7 +17,7 @@ use Rattle.pl_keeper.specs.Store.{Recovering, HasSame, Recovered, IsUsed}
 use Rattle.pl_keeper.specs.declared.head.Head.{Head}
 use Rattle.pl_undo.specs.Database.{Database}
 use Rattle.pl_journal.specs.Operation.{empty}
-use Rattle.pl_meaning.specs.Opening.{apply_batches, in_area, opened_by, opens}
+use Rattle.pl_world.specs.Opening.{apply_batches, in_area, opened_by, opens}
 use Rattle.pl_command.specs.Ends.{IsIdle}
 use Rattle.pl_engine.specs.Engines.{world}
 use Rattle.pl_port.proofs.Opens.{opens_by}

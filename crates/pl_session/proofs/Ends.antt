@@ -13,9 +13,9 @@ use Rattle.pl_engine.specs.Engines.{world}
 use Rattle.pl_engine.specs.Texts.{do_bodies}
 use Rattle.pl_engine.specs.declared.stop.Stop.{Stop}
 use Rattle.pl_engine.specs.declared.stop.Stop.TheVariants.{Disk, Say, Memory}
-use Rattle.pl_meaning.proofs.Lent.{last_commit-append, text-append}
-use Rattle.pl_meaning.specs.Covered.{AlongFrom}
-use Rattle.pl_meaning.specs.Trace.{Event, is_failed, last_commit, text}
+use Rattle.pl_world.proofs.Lent.{last_commit-append, text-append}
+use Rattle.pl_world.specs.Covered.{AlongFrom}
+use Rattle.pl_world.specs.Trace.{Event, is_failed, last_commit, text}
 use Rattle.pl_port.proofs.Opens.{stores_open}
 use Rattle.pl_port.specs.PortLaws.{along_more, along_on, takes_none}
 use Rattle.pl_port.specs.Ports.{Fits, Takes}

@@ -13,7 +13,7 @@ use Rattle.pl_keeper.specs.Store.{IsReading, IsStore, DamagedAt, stored}
 use Rattle.pl_keeper.specs.declared.batch.Batch.{Batch}
 use Rattle.pl_keeper.specs.declared.head.Head.{Head}
 use Rattle.pl_undo.specs.Database.{Database}
-use Rattle.pl_meaning.specs.Opening.{opens}
+use Rattle.pl_world.specs.Opening.{opens}
 use Rattle.pl_session.specs.Halts.{start_fail_of}
 use Rattle.pl_session.specs.Starts.{HasStartCause}
 use Rattle.pl_session.specs.Steps.{Reaches}

@@ -9,10 +9,10 @@ use Rattle.pl_keeper.specs.Batches.{Damage}
 use Rattle.pl_keeper.specs.Checkpoint.{CheckpointedPayload, CheckpointingPayload, is_due, next_head}
 use Rattle.pl_keeper.specs.declared.head.Head.{Head}
 use Rattle.pl_journal.specs.Operation.{apply_payload, empty}
-use Rattle.pl_meaning.specs.Covered.{AlongFrom}
+use Rattle.pl_world.specs.Covered.{AlongFrom}
 use Rattle.pl_undo.specs.Database.{Database}
-use Rattle.pl_meaning.specs.Opening.{opens}
-use Rattle.pl_meaning.specs.Trace.{Event, is_failed, last_commit, text}
+use Rattle.pl_world.specs.Opening.{opens}
+use Rattle.pl_world.specs.Trace.{Event, is_failed, last_commit, text}
 use Rattle.pl_command.specs.Ends.{IsIdle}
 use Rattle.pl_engine.specs.Engines.{world}
 use Rattle.pl_engine.specs.declared.engine.Engine.{Engine}

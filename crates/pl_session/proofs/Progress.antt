@@ -7,9 +7,9 @@ use Rattle.pl_engine.specs.declared.stop.Stop.{Stop}
 use Rattle.pl_engine.specs.declared.stop.Stop.TheVariants.{Disk, Say, Memory}
 use Rattle.pl_keeper.specs.Batches.{Damage}
 use Rattle.pl_lex.specs.Characters.{Text}
-use Rattle.pl_meaning.proofs.Lent.{text-append, last_commit-append, is_failed-append, both_no, readings_some}
-use Rattle.pl_meaning.specs.Meaning.{Readings}
-use Rattle.pl_meaning.specs.Trace.{Event, is_failed, text, last_commit}
+use Rattle.pl_world.proofs.Lent.{text-append, last_commit-append, is_failed-append, both_no, readings_some}
+use Rattle.pl_world.specs.Meaning.{Readings}
+use Rattle.pl_world.specs.Trace.{Event, is_failed, text, last_commit}
 use Rattle.pl_port.specs.PortLaws.{along_on, along_more}
 use Rattle.pl_reading.specs.Computed.{script_readings}
 use Rattle.pl_reading.specs.declared.reading.Reading.{Reading}

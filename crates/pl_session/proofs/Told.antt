@@ -14,7 +14,7 @@ use Rattle.pl_engine.specs.declared.port.Port.{Ghosts}
 use Rattle.pl_engine.specs.declared.stop.Stop.{Stop}
 use Rattle.pl_engine.specs.declared.stop.Stop.TheVariants.{Disk, Say, Memory}
 use Rattle.pl_keeper.specs.declared.head.Head.{Head}
-use Rattle.pl_meaning.specs.Trace.{Event, Said, Failed, Committed, last_commit}
+use Rattle.pl_world.specs.Trace.{Event, Said, Failed, Committed, last_commit}
 use Rattle.pl_port.proofs.Opens.{stores_open}
 use Rattle.pl_port.specs.PortLaws.{along_more, along_on}
 use Rattle.pl_port.specs.Ports.{Fits, Takes, Tries}

@@ -3,8 +3,8 @@ use Rattle.std.proofs.Common.{◌≡◌, ◌∙◌, ◌&&◌, ◌||◌, ◌++◌
 use Rattle.std.proofs.lemmas.List.{append-nil}
 use Rattle.pl_engine.specs.Texts.{do_bodies}
 use Rattle.pl_lex.specs.Characters.{Text}
-use Rattle.pl_meaning.proofs.Lent.{is_failed-append, readings_only}
-use Rattle.pl_meaning.specs.Trace.{Event, is_failed}
+use Rattle.pl_world.proofs.Lent.{is_failed-append, readings_only}
+use Rattle.pl_world.specs.Trace.{Event, is_failed}
 use Rattle.pl_reading.specs.Computed.{script_readings}
 use Rattle.pl_reading.specs.declared.reading.Reading.{Reading}
 use Rattle.pl_session.specs.Traces.{IsTrace, after, behind, ended_behind, events_by, events_in, session_by, trace, waiting}

@@ -9,9 +9,9 @@ use Rattle.pl_command.specs.Ends.{IsIdle, as_ran}
 use Rattle.pl_command.specs.Lines.{lines_by, lines_of}
 use Rattle.pl_engine.proofs.Joins.{outward-append}
 use Rattle.pl_engine.specs.Texts.{do_bodies}
-use Rattle.pl_meaning.proofs.Lent.{is_failed-append}
-use Rattle.pl_meaning.specs.Trace as trace
-use Rattle.pl_meaning.specs.Trace.{is_failed, last_commit, text}
+use Rattle.pl_world.proofs.Lent.{is_failed-append}
+use Rattle.pl_world.specs.Trace as trace
+use Rattle.pl_world.specs.Trace.{is_failed, last_commit, text}
 use Rattle.pl_reading.specs.declared.reading.Reading.{Reading}
 use Rattle.pl_reading.specs.declared.reading.Reading.TheVariants.{Refused, Spelled}
 use Rattle.pl_session.specs.Steps.{IsPart, ran, replies}

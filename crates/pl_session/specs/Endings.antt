@@ -6,8 +6,8 @@ use Rattle.pl_engine.specs.declared.stop.Stop.{Stop}
 use Rattle.pl_engine.specs.declared.stop.Stop.TheVariants.{Disk, Say, Memory}
 use Rattle.pl_lex.specs.Characters.{Text}
 use Rattle.pl_undo.specs.Database.{Database}
-use Rattle.pl_meaning.specs.Opening.{opens}
-use Rattle.pl_meaning.specs.Trace.{Event, text, last_commit}
+use Rattle.pl_world.specs.Opening.{opens}
+use Rattle.pl_world.specs.Trace.{Event, text, last_commit}
 pub use Rattle.pl_port.specs.Stores.{RunsAlong}
 use Rattle.pl_session.specs.State.{database_in, session_in, IsReady}
 use Rattle.pl_session.specs.Traces.{AreFront, IsTrace}

@@ -3,7 +3,7 @@ use Rattle.std.specs.Prelude.{◌≡◌, ◌⊎◌, ◌++◌, ◌∷◌, ℕ, Li
 use Rattle.pl_base.specs.Image.{Image}
 use Rattle.pl_disk.specs.Disk.{View, Rises}
 use Rattle.pl_keeper.specs.Batches.{batches}
-use Rattle.pl_meaning.specs.Opening.{opens}
+use Rattle.pl_world.specs.Opening.{opens}
 use Rattle.pl_session.specs.State.{database_in, session_in, IsReady}
 use Rattle.pl_session.specs.declared.halt.StartFail.{StartFail}
 use Rattle.pl_session.specs.declared.halt.StartFail.TheVariants.{Disk, Damaged, Memory}

@@ -4,7 +4,7 @@ use Rattle.pl_base.specs.Image.{Image}
 use Rattle.pl_command.specs.Ends.{IsIdle}
 use Rattle.pl_disk.specs.Disk.{View}
 use Rattle.pl_engine.specs.Engines.{world}
-use Rattle.pl_meaning.specs.Opening.{opens}
+use Rattle.pl_world.specs.Opening.{opens}
 use Rattle.pl_port.specs.Stores.{Stores}
 use Rattle.pl_session.specs.declared.state.SessionState.{SessionState}
 use Rattle.pl_undo.specs.Database.{Database}

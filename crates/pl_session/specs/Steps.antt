@@ -10,8 +10,8 @@ use Rattle.pl_engine.specs.declared.stop.Stop.TheVariants.{Disk, Say, Memory}
 use Rattle.pl_journal.specs.Operation.{empty}
 use Rattle.pl_keeper.specs.Batches.{Stored}
 use Rattle.pl_keeper.specs.declared.head.Head.{Head}
-use Rattle.pl_meaning.specs.Opening.{apply_batches, opens}
-use Rattle.pl_meaning.specs.Trace.{Event, is_failed, last_commit, text}
+use Rattle.pl_world.specs.Opening.{apply_batches, opens}
+use Rattle.pl_world.specs.Trace.{Event, is_failed, last_commit, text}
 use Rattle.pl_port.specs.Ports.{Takes}
 use Rattle.pl_reading.specs.declared.reading.Reading.{Reading}
 use Rattle.pl_session.specs.Endings.{Done, GoesOn}

@@ -5,8 +5,8 @@ use Rattle.std.specs.Prelude.{Option, Some, None, if◌then◌else◌}
 use Rattle.pl_base.specs.States.{FEATURE_NOT_SUPPORTED}
 use Rattle.pl_engine.specs.Texts.{do_bodies}
 use Rattle.pl_lex.specs.Characters.{Text}
-use Rattle.pl_meaning.specs.Meaning.{Readings}
-use Rattle.pl_meaning.specs.Trace.{Event, is_failed}
+use Rattle.pl_world.specs.Meaning.{Readings}
+use Rattle.pl_world.specs.Trace.{Event, is_failed}
 use Rattle.pl_reading.specs.declared.reading.Reading.{Reading}
 use Rattle.pl_reading.specs.declared.reading.Reading.TheVariants.{Refused, Spelled}
 use Rattle.pl_tree.specs.declared.command.Command.{Command}

@@ -8,7 +8,7 @@ ghost use Rattle.pl_engine.specs.Answers.{Answers};
 ghost use Rattle.pl_engine.specs.Engines.{kept, world};
 ghost use Rattle.pl_engine.specs.Runs.{run_as};
 ghost use Rattle.pl_engine.specs.Texts.{do_bodies};
-ghost use Rattle.pl_meaning.specs.Trace.{is_failed};
+ghost use Rattle.pl_world.specs.Trace.{is_failed};
 ghost use Rattle.pl_port.specs.Ports.{Fits};
 ghost use Rattle.pl_port.specs.Stores.{AllOpen};
 ghost use Rattle.pl_reading.specs.Computed.{CommandMeansAlike};

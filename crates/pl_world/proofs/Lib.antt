@@ -1,1 +1,2 @@
 mod Runs
+pub use Rattle.pl_meaning.proofs.Lent

@@ -5,8 +5,8 @@
 use Rattle.std.specs.Prelude.{ℕ, Bool, true, false, if◌then◌else◌, List, [], ◌∷◌, ◌++◌, map}
 use Rattle.std.specs.Prelude.{Option, Some, None, option_map}
 use Rattle.pl_base.specs.States.{TRIGGERED_DATA_CHANGE_VIOLATION}
-use Rattle.pl_change.specs.Changes.{assigned}
-use Rattle.pl_journal.specs.Writing.{written}
+use Rattle.pl_meaning.specs.Changes.{assigned}
+use Rattle.pl_meaning.specs.Writing.{written}
 use Rattle.pl_keys.specs.Same.{same}
 use Rattle.pl_names.specs.Names.{Name}
 use Rattle.pl_product.specs.Product.{passes}

@@ -10,7 +10,7 @@ use Rattle.pl_base.specs.declared.state.State.{State}
 use Rattle.pl_bodies.specs.declared.simple.Change.{Change}
 use Rattle.pl_bodies.specs.declared.simple.IntoClause.{IntoClause}
 use Rattle.pl_bodies.specs.declared.simple.Target.{Target}
-use Rattle.pl_journal.specs.Definitions.{Behind, redefined}
+use Rattle.pl_meaning.specs.Definitions.{Behind, redefined}
 use Rattle.pl_meaning.specs.Replies.{notice_line}
 use Rattle.pl_names.specs.Names.{Name}
 use Rattle.pl_resolved.specs.declared.query.Head.{Head}

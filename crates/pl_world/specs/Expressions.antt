@@ -5,7 +5,7 @@ use Rattle.std.specs.Prelude.{Some, None}
 use Rattle.pl_base.specs.declared.fail.Fail.{Fail}
 use Rattle.pl_base.specs.declared.state.State.{State}
 use Rattle.pl_base.specs.declared.value.Value.{Value}
-use Rattle.pl_journal.specs.Rows.{tables_of}
+use Rattle.pl_meaning.specs.Rows.{tables_of}
 use Rattle.pl_meaning.specs.Selection.{last_of}
 use Rattle.pl_query.specs.Query.{rows}
 use Rattle.pl_resolved.specs.declared.query.RQuery.{RQuery}

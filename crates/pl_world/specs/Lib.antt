@@ -20,3 +20,11 @@ pub mod Sessions
 pub mod Scripts
 pub mod Laws
 pub mod ExampleValues
+-- The meaning of a script's trace, of its queries and its replies, for the crates that run it.
+pub use Rattle.pl_meaning.specs.Changing
+pub use Rattle.pl_meaning.specs.Covered
+pub use Rattle.pl_meaning.specs.Meaning
+pub use Rattle.pl_meaning.specs.Opening
+pub use Rattle.pl_meaning.specs.Replies
+pub use Rattle.pl_meaning.specs.Selection
+pub use Rattle.pl_meaning.specs.Trace

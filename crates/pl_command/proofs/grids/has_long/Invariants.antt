@@ -1,6 +1,6 @@
 use Rattle.std.proofs.Common.{◌≡◌, length}
 use Rattle.std.specs.List.{list_any}
-use Rattle.pl_meaning.specs.Selection.{is_too_long}
+use Rattle.pl_world.specs.Selection.{is_too_long}
 use Rattle.pl_command.proofs.grids.has_long.Given as goal
 
 abbrev pub invariant-loop-rows : goal.invariant-loop-rows

@@ -8,7 +8,7 @@ use Rattle.pl_engine.proofs.Joins.{acted, before, lawful, refused, stopped}
 use Rattle.pl_engine.specs.Answers.{Done, Stopped}
 use Rattle.pl_engine.specs.Engines.{Quiet, world}
 use Rattle.pl_engine.specs.Texts.{do_bodies}
-use Rattle.pl_meaning.specs.Selection.{heads_of}
+use Rattle.pl_world.specs.Selection.{heads_of}
 use Rattle.pl_resolved.specs.declared.query.Head.{Head}
 use Rattle.pl_value.specs.Frames.{Row}
 use Rattle.pl_world.specs.Errors.{Spot}
