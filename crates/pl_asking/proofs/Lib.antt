@@ -2,3 +2,4 @@ pub mod Acts
 pub mod Aimed
 pub mod Tried
 pub mod Valued
+mod AtOnce

@@ -1,18 +1,22 @@
 -- The values of expressions within statements, as they are answered.
-use Rattle.std.specs.Prelude.{List, [], ◌∷◌, Option, Some, None, Result, Ok, Err}
+use Rattle.std.specs.Prelude.{◌≡◌, List, [], ◌∷◌, Option, Some, None, Result, Ok, Err}
 use Rattle.pl_base.specs.declared.types.Ty.{Ty}
 use Rattle.pl_base.specs.declared.value.Value.{Value}
 use Rattle.pl_base.specs.declared.value.Value.TheVariants.{Null}
 use Rattle.pl_calling.specs.Reading.{read_beside}
+use Rattle.pl_direct.specs.Direct.{Directly}
+use Rattle.pl_direct.specs.declared.known.Known.{Known}
 use Rattle.pl_engine.specs.Asks.{returned}
 use Rattle.pl_bodies.specs.declared.simple.Target.{Target}
 use Rattle.pl_tree.specs.declared.tree.Expr.{Expr}
 use Rattle.pl_value.specs.Frames.{Row}
 use Rattle.pl_world.specs.Assigning.{put}
+use Rattle.pl_world.specs.Calls.{Within}
 use Rattle.pl_world.specs.Errors.{Spot, resolved}
 use Rattle.pl_world.specs.Expressions.{evaluated}
-use Rattle.pl_world.specs.Resolving.{aiming, matching, reading}
+use Rattle.pl_world.specs.Resolving.{aiming, giving, matching, reading}
 use Rattle.pl_world.specs.Running.{Runner}
+use Rattle.pl_world.specs.Variables.{row_of}
 use Rattle.pl_world.specs.World.{World, Ran}
 use Rattle.pl_world.specs.declared.outcome.Outcome.{Outcome}
 use Rattle.pl_world.specs.declared.outcome.Outcome.TheVariants as outcome
@@ -47,3 +51,19 @@ put_in t v at w = resolved (aiming t w.database.objects w.frame.static) at w (λ
 abbrev pub first_or_null : Row → Value
 first_or_null [] = Null
 first_or_null (x ∷ row) = x
+
+-- the expression has this value directly, over the variables of the newest call
+abbrev pub DirectlyIs : Expr → World → Known → Type 0
+DirectlyIs e w k =
+    Directly Within w.database.objects w.frame.static.scope e (row_of w.frame) k
+
+-- the expression has this value at once, whatever runs bodies
+abbrev pub AtOnce : Expr → World → Value → Type 0
+AtOnce e w v = (r : Runner) (at : Spot) → read_value r at e w ≡ returned v w
+
+-- so has what RETURN gives
+abbrev pub GivenAtOnce : Expr → World → Value → Type 0
+GivenAtOnce e w v =
+    (r : Runner) (at : Spot)
+    → resolved (giving e w.database.objects w.frame.static) at w (λ x. evaluated r at x w returned)
+    ≡ returned v w

@@ -1,6 +1,6 @@
 //! What statements make of their expressions: whether a condition is true, the bound of a FOR, a
 //! variable that is declared or given a value, what RETURN gives, and CASE with an operand. An
-//! expression is resolved when it is reached.
+//! expression is resolved when it is reached, or else read off its tree.
 #![tactic(auto)]
 
 mod answering;
@@ -10,6 +10,7 @@ mod cases;
 mod conditions;
 mod converting;
 mod declaring;
+mod direct;
 mod placing;
 mod resolving;
 mod values;

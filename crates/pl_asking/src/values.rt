@@ -13,6 +13,7 @@ ghost use Rattle.pl_world.specs.Errors.{resolved};
 ghost use Rattle.pl_world.specs.Expressions.{evaluated};
 ghost use Rattle.pl_world.specs.Statements.{runner_for};
 
+use crate::direct::{given_at_once, value_at_once};
 use crate::resolving::{give, read};
 use pl_base::{Boxed, Held, Value};
 use pl_calling::evaluate;
@@ -64,8 +65,13 @@ pub fn value<P: Port, R: BodyRunner>(
         engine.old engine.new port.old port.new }
     ensures keeps { OnOk result (kept engine.new ≡ kept engine.old) }
 {
-    let e = read(engine, e);
-    evaluate_it(calls, engine, port, at, e)
+    match value_at_once(&*engine, e) {
+        Some(v) => Ok(Outcome::Return(v)),
+        None => {
+            let e = read(engine, e);
+            evaluate_it(calls, engine, port, at, e)
+        }
+    }
 }
 
 /// The value of a default, or else null.
@@ -111,6 +117,12 @@ pub fn returns<P: Port, R: BodyRunner>(
     let Some(e) = e else {
         return Ok(Outcome::Return(Value::Null));
     };
-    let e = give(engine, e.get());
-    evaluate_it(calls, engine, port, at, e)
+    let due = e.get();
+    match given_at_once(&*engine, due) {
+        Some(v) => Ok(Outcome::Return(v)),
+        None => {
+            let e = give(engine, due);
+            evaluate_it(calls, engine, port, at, e)
+        }
+    }
 }

@@ -1,6 +1,8 @@
-use Rattle.std.proofs.Common.{refl, rules}
+use Rattle.std.proofs.Common.{◌∙◌, refl, rules}
+use Rattle.pl_asking.proofs.AtOnce.{of_some}
 use Rattle.pl_asking.proofs.Valued.{gives_is, gives_none}
 use Rattle.pl_asking.proofs.values.returns.Goals as goal
+use Rattle.pl_asking.specs.Values.{GivenAtOnce}
 use Rattle.pl_engine.proofs.Joins.{answered, becomes, ended, lawful, start}
 use Rattle.pl_engine.specs.Engines.{world}
 use Rattle.pl_engine.specs.Texts.{do_bodies}
@@ -16,11 +18,20 @@ returns-in_default-clause-is g c =
     ended law (becomes law (start law (returns r c.args.at c.args.e.now w) c.args.engine.now c.args.port.now c.requires.fits)
     (gives_none r c.args.at c.args.e.now w (search rules))) refl
 
-pub returns-clause-is : goal.returns-clause-is
-returns-clause-is g c =
+pub returns-in-Some-given_at_once-clause-is : goal.returns-in-Some-given_at_once-clause-is
+returns-in-Some-given_at_once-clause-is g c =
+    let law = lawful g.P.Port g.met.P.Port.none g.met.P.Port.joins g.met.P.Port.rises in
+    let r = runner_for do_bodies c.args.calls.now.room in
+    let w = world c.args.engine.now in
+    ended law (becomes law (start law (returns r c.args.at c.args.e.now w) c.args.engine.now c.args.port.now c.requires.fits)
+    (gives_is r c.args.at c.args.e.now c.get-due.result.now w (search rules)
+    ∙ of_some (GivenAtOnce c.get-due.result.now w) c.given_at_once.result c.in-Some-given_at_once.v c.in-Some-given_at_once.is c.given_at_once.ensures r c.args.at)) refl
+
+pub returns-in-None-clause-is : goal.returns-in-None-clause-is
+returns-in-None-clause-is g c =
     let law = lawful g.P.Port g.met.P.Port.none g.met.P.Port.joins g.met.P.Port.rises in
     let r = runner_for do_bodies c.args.calls.now.room in
     let w = world c.args.engine.now in
     answered law _ _ _ (becomes law (start law (returns r c.args.at c.args.e.now w) c.args.engine.now c.args.port.now c.requires.fits)
-    (gives_is r c.args.at c.args.e.now c.get.result.now w (search rules)))
-    (c.evaluate_it.ensures.is (giving c.get.result.now w.database.objects w.frame.static) c.give-e.ensures)
+    (gives_is r c.args.at c.args.e.now c.get-due.result.now w (search rules)))
+    (c.evaluate_it.ensures.is (giving c.get-due.result.now w.database.objects w.frame.static) c.give-e.ensures)

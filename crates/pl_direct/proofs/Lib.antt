@@ -1,0 +1,5 @@
+mod Orders
+mod Values
+mod Parts
+mod Steps
+mod Joints

@@ -1,0 +1,3 @@
+pub mod Direct
+pub mod Known
+pub mod Runs
