@@ -3,7 +3,7 @@
 ghost use Rattle.std.specs.Prelude.{◌≡◌, IsSome, true};
 ghost use Rattle.pl_tables.specs.Named.{row_named};
 
-use pl_base::{Cells, Held, List, Memory, Name, State, Txt, Value};
+use pl_base::{Bytes, Cells, Held, List, Memory, Name, State, Txt, Value};
 use pl_codec::decode_all;
 use pl_journal::Journal;
 use pl_reading::read_definition;
@@ -141,59 +141,101 @@ fn opened(alloc: Global, payload: &[u8]) -> Result<Journal, Fail> {
     }
 }
 
+// The rows of the database that the payload leads to.
+fn rows_led_to(alloc: Global, payload: &[u8], name: Name) -> Result<Vec<(u64, i32)>, Fail> {
+    let again = opened(alloc, payload)?;
+    rows_of(alloc, &again, name)
+}
+
+// The write is answered so, and the rows are then these, also where the operations lead.
+fn check_write(
+    alloc: Global,
+    journal: &mut Journal,
+    name: Name,
+    step: Step,
+    state: Option<State>,
+    rows: &[(u64, i32)],
+) -> Result<(), Fail> {
+    if play(alloc, journal, name, step)? != state {
+        return Err(Fail::new("a write is answered otherwise"));
+    }
+    if rows_of(alloc, journal, name)?.as_slice() != rows {
+        return Err(Fail::new("a write leaves other rows"));
+    }
+    if rows_led_to(alloc, journal.payload(), name)?.as_slice() != rows {
+        return Err(Fail::new("the operations lead to other rows"));
+    }
+    Ok(())
+}
+
+// The rows are then these.
+fn check_rows(
+    alloc: Global,
+    journal: &mut Journal,
+    name: Name,
+    step: Step,
+    rows: &[(u64, i32)],
+) -> Result<(), Fail> {
+    play(alloc, journal, name, step)?;
+    if rows_of(alloc, journal, name)?.as_slice() != rows {
+        return Err(Fail::new("a step leaves other rows"));
+    }
+    Ok(())
+}
+
+const WRITES: [(Step, Option<State>, &[(u64, i32)]); 8] = [
+    (Step::Insert(10, 1), None, &[(1, 10)]),
+    (
+        Step::Insert(10, 1),
+        Some(State::UNIQUE_VIOLATION),
+        &[(1, 10)],
+    ),
+    (
+        Step::Insert(20, 0),
+        Some(State::CHECK_VIOLATION),
+        &[(1, 10)],
+    ),
+    (
+        Step::InsertText,
+        Some(State::PROGRAM_LIMIT_EXCEEDED),
+        &[(1, 10)],
+    ),
+    (Step::Insert(20, 2), None, &[(1, 10), (2, 20)]),
+    (
+        Step::Replace(2, 10, 1),
+        Some(State::UNIQUE_VIOLATION),
+        &[(1, 10), (2, 20)],
+    ),
+    (Step::Replace(2, 21, 1), None, &[(1, 10), (2, 21)]),
+    (Step::Remove(1), None, &[(2, 21)]),
+];
+
+const LATER: [(Step, &[(u64, i32)]); 4] = [
+    (Step::Seal, &[(2, 21)]),
+    (Step::Insert(30, 3), &[(2, 21), (3, 30)]),
+    (Step::Reset, &[(2, 21)]),
+    (Step::Insert(31, 3), &[(2, 21), (3, 31)]),
+];
+
+fn check_all(alloc: Global, journal: &mut Journal, name: Name) -> Result<(), Fail> {
+    create(alloc, journal)?;
+    for (step, state, rows) in WRITES {
+        check_write(alloc, journal, name, step, state, rows)?;
+    }
+    for (step, rows) in LATER {
+        check_rows(alloc, journal, name, step, rows)?;
+    }
+    Ok(())
+}
+
 #[test]
 fn operations_lead_to_what_the_writes_left(rt: HostRuntime) -> Result<(), Fail> {
-    let alloc = rt.alloc();
     let Some(name) = Name::of("t") else {
         return Err(Fail::new("no name"));
     };
+    let alloc = rt.alloc();
     let mut journal = Journal::new(alloc);
-    create(alloc, &mut journal)?;
-    for (step, state, rows) in [
-        (Step::Insert(10, 1), None, [(1, 10)].as_slice()),
-        (
-            Step::Insert(10, 1),
-            Some(State::UNIQUE_VIOLATION),
-            [(1, 10)].as_slice(),
-        ),
-        (
-            Step::Insert(20, 0),
-            Some(State::CHECK_VIOLATION),
-            [(1, 10)].as_slice(),
-        ),
-        (
-            Step::InsertText,
-            Some(State::PROGRAM_LIMIT_EXCEEDED),
-            [(1, 10)].as_slice(),
-        ),
-        (Step::Insert(20, 2), None, [(1, 10), (2, 20)].as_slice()),
-        (
-            Step::Replace(2, 10, 1),
-            Some(State::UNIQUE_VIOLATION),
-            [(1, 10), (2, 20)].as_slice(),
-        ),
-        (Step::Replace(2, 21, 1), None, [(1, 10), (2, 21)].as_slice()),
-        (Step::Remove(1), None, [(2, 21)].as_slice()),
-    ] {
-        let answered = play(alloc, &mut journal, name, step)?;
-        assert!(rt; answered == state);
-        let found = rows_of(alloc, &journal, name)?;
-        assert_eq!(rt; found.as_slice(), rows);
-        let again = opened(alloc, journal.payload())?;
-        let led_to = rows_of(alloc, &again, name)?;
-        assert_eq!(rt; led_to.as_slice(), rows);
-    }
-    for (step, rows) in [
-        (Step::Seal, [(2, 21)].as_slice()),
-        (Step::Insert(30, 3), [(2, 21), (3, 30)].as_slice()),
-        (Step::Reset, [(2, 21)].as_slice()),
-        (Step::Insert(31, 3), [(2, 21), (3, 31)].as_slice()),
-    ] {
-        play(alloc, &mut journal, name, step)?;
-        let found = rows_of(alloc, &journal, name)?;
-        assert_eq!(rt; found.as_slice(), rows);
-    }
-    Ok(())
+    check_all(alloc, &mut journal, name)
 }
 
 const FUNCTION: &str = "CREATE FUNCTION f() RETURNS integer LANGUAGE plpgsql AS 'BEGIN END'";
@@ -222,27 +264,65 @@ fn is_made_by(journal: &Journal, name: Name, text: &str) -> bool {
     }
 }
 
+// The one function has the other's place, and the third is gone.
+fn is_replaced(journal: &Journal, f: Name, g: Name) -> bool {
+    is_made_by(journal, f, ANOTHER) && journal.catalog().routine(g).is_none()
+}
+
+fn whole_of(journal: &Journal) -> Result<Bytes, Fail> {
+    match journal.whole() {
+        Ok(payload) => Ok(payload),
+        Err(_) => Err(Fail::new("no memory")),
+    }
+}
+
+// Whether so it is where the payload leads.
+fn is_led_to(alloc: Global, payload: &[u8], f: Name, g: Name) -> Result<bool, Fail> {
+    let again = opened(alloc, payload)?;
+    Ok(is_replaced(&again, f, g))
+}
+
+// The payload of the whole database that this payload leads to.
+fn whole_led_to(alloc: Global, payload: &[u8]) -> Result<Bytes, Fail> {
+    let again = opened(alloc, payload)?;
+    whole_of(&again)
+}
+
+fn is_so_in_all(alloc: Global, journal: &mut Journal, f: Name, g: Name) -> Result<bool, Fail> {
+    let texts = [FUNCTION, GONE, TABLE, ANOTHER, "DROP FUNCTION g"];
+    if !define_all(alloc, journal, &texts)? || !is_made_by(journal, f, ANOTHER) {
+        return Ok(false);
+    }
+    if !is_led_to(alloc, journal.payload(), f, g)? {
+        return Ok(false);
+    }
+    let whole = whole_led_to(alloc, journal.payload())?;
+    is_led_to(alloc, whole.as_slice(), f, g)
+}
+
 // The operations, and the whole that they lead to.
 #[test]
 fn a_function_takes_the_place_of_another(rt: HostRuntime) -> Result<(), Fail> {
-    let alloc = rt.alloc();
     let (Some(f), Some(g)) = (Name::of("f"), Name::of("g")) else {
         return Err(Fail::new("no name"));
     };
+    let alloc = rt.alloc();
     let mut journal = Journal::new(alloc);
-    let texts = [FUNCTION, GONE, TABLE, ANOTHER, "DROP FUNCTION g"];
-    assert!(rt; define_all(alloc, &mut journal, &texts)?);
-    assert!(rt; is_made_by(&journal, f, ANOTHER));
-    let again = opened(alloc, journal.payload())?;
-    assert!(rt; is_made_by(&again, f, ANOTHER));
-    assert!(rt; again.catalog().routine(g).is_none());
-    let Ok(payload) = again.whole() else {
-        return Err(Fail::new("no memory"));
-    };
-    let whole = opened(alloc, payload.as_slice())?;
-    assert!(rt; is_made_by(&whole, f, ANOTHER));
-    assert!(rt; whole.catalog().routine(g).is_none());
+    assert!(rt; is_so_in_all(alloc, &mut journal, f, g)?);
     Ok(())
+}
+
+fn play_three(alloc: Global, journal: &mut Journal, name: Name) -> Result<Bytes, Fail> {
+    create(alloc, journal)?;
+    for step in [Step::Insert(10, 1), Step::Insert(20, 2), Step::Remove(2)] {
+        play(alloc, journal, name, step)?;
+    }
+    whole_of(journal)
+}
+
+fn whole_after_three(alloc: Global, name: Name) -> Result<Bytes, Fail> {
+    let mut journal = Journal::new(alloc);
+    play_three(alloc, &mut journal, name)
 }
 
 // The next id is more than that of the last row.
@@ -252,17 +332,13 @@ fn the_whole_leads_to_the_same(rt: HostRuntime) -> Result<(), Fail> {
     let Some(name) = Name::of("t") else {
         return Err(Fail::new("no name"));
     };
-    let mut journal = Journal::new(alloc);
-    create(alloc, &mut journal)?;
-    for step in [Step::Insert(10, 1), Step::Insert(20, 2), Step::Remove(2)] {
-        play(alloc, &mut journal, name, step)?;
-    }
-    let Ok(payload) = journal.whole() else {
-        return Err(Fail::new("no memory"));
-    };
+    let payload = whole_after_three(alloc, name)?;
     let mut again = opened(alloc, payload.as_slice())?;
-    play(alloc, &mut again, name, Step::Insert(30, 3))?;
-    let found = rows_of(alloc, &again, name)?;
-    assert_eq!(rt; found.as_slice(), [(1, 10), (3, 30)].as_slice());
-    Ok(())
+    check_rows(
+        alloc,
+        &mut again,
+        name,
+        Step::Insert(30, 3),
+        &[(1, 10), (3, 30)],
+    )
 }
