@@ -1,3 +1,4 @@
+mod Named
 mod Orders
 mod Values
 mod Parts

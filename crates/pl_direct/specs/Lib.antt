@@ -1,3 +1,4 @@
 pub mod Direct
 pub mod Known
 pub mod Runs
+pub mod Search

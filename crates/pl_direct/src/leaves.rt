@@ -7,8 +7,9 @@ ghost use Rattle.pl_names.specs.Names.{around};
 ghost use Rattle.pl_typing.specs.Literals as literals;
 
 use crate::Known;
+use crate::search::variables_within;
 use pl_base::{Name, Value};
-use pl_names::{Meaning, Names, name_means, parameter_means};
+use pl_names::{Meaning, Names, parameter_means};
 use pl_tree::Literal;
 
 /// A number or a truth. None for a text and for NULL, and for a number that 64 bits can't hold.
@@ -52,15 +53,23 @@ fn sized(number: i64) -> Known
 
 // ---- variables
 
-/// What the name means, where it is one variable.
+/// What the name means, where it is one variable and no query is around.
 pub(crate) fn variable(name: Name, names: &Names<'_>) -> Option<Meaning>
     ensures { IfSome result (λ m. (meanings.name_means name (around names.now) ≡ Ok m)
         × (m.row ≡ 0)) }
 {
-    match name_means(name, names) {
-        Ok(meaning) if meaning.row == 0 => Some(meaning),
-        _ => None,
+    if names.levels.is_empty() {
+        return match variables_within(&name, names.scope.frames.as_slice())? {
+            Some(spot) => Some(Meaning {
+                row: 0,
+                column: spot.column,
+                ty: spot.seen.ty,
+                is_barred: false,
+            }),
+            None => None,
+        };
     }
+    None
 }
 
 /// What `$number` means, where there is such a parameter.

@@ -6,6 +6,7 @@ mod direct;
 mod known;
 mod leaves;
 mod operators;
+mod search;
 
 pub use direct::direct_value;
 pub use known::Known;
