@@ -6,10 +6,11 @@ use Rattle.pl_base.specs.declared.state.State.{State}
 use Rattle.pl_catalog.specs.declared.object.Object.{Object}
 use Rattle.pl_catalog.specs.declared.object.TableDef.{TableDef}
 use Rattle.pl_catalog.specs.Objects.{table_named, tables_in}
-use Rattle.pl_change.proofs.Noted.{if_ok_then}
-use Rattle.pl_change.proofs.TurnedDown.{down, head_there, others_last}
+use Rattle.pl_journal.proofs.Noted.{if_ok_then}
+use Rattle.pl_journal.proofs.TurnedDown.{down, head_there, others_last}
 use Rattle.pl_change.proofs.Turns.{row_there}
-use Rattle.pl_change.specs.ByKey.{AreEnough, IsFound, listed}
+use Rattle.pl_change.specs.Running.{AreEnough, listed}
+use Rattle.pl_journal.specs.ByKey.{IsFound}
 use Rattle.pl_change.specs.Changes.{Progress, Setting, assigned, at_row, behind, deletes, if_some, ids, progress, returning, set_if, shown_if, takes, told, updates, values_if, writes}
 use Rattle.pl_journal.proofs.OneTable.{content_changed}
 use Rattle.pl_journal.proofs.Truths.{chained, equal_number, none_some, other_number, same_number, some_is, true_false}

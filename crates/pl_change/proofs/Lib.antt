@@ -1,9 +1,7 @@
 mod Alike
 mod Assigned
-mod Asked
 mod Copying
 mod LeftOut
-mod Noted
 mod Standing
-pub mod TurnedDown
 mod Turns
+pub use Rattle.pl_journal.proofs.TurnedDown

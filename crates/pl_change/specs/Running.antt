@@ -1,12 +1,13 @@
 -- How the code stands to changes of tables.
-use Rattle.std.specs.Prelude.{◌≡◌, ℕ, if◌then◌else◌, nat_eq, List, [], ◌∷◌, map, Option, Some, None}
+use Rattle.std.specs.Prelude.{◌≡◌, ◌⊎◌, ℕ, if◌then◌else◌, nat_eq, List, [], ◌∷◌, map, Option, Some, None}
 use Rattle.std.specs.Prelude.{option_map, IsSome, Result, Ok, Err}
 use Rattle.std.specs.Cmp.Lexicographic.{pointwise}
 use Rattle.pl_catalog.specs.declared.object.Object.{Object}
-use Rattle.pl_change.specs.Changes.{Progress, Setting, adds_found, adds_values, deletes_all, progress}
-use Rattle.pl_change.specs.Changes.{updates_all}
+use Rattle.pl_change.specs.Changes.{Progress, Setting, adds_found, adds_values, deletes_all, ids}
+use Rattle.pl_change.specs.Changes.{progress, updates_all}
 use Rattle.pl_change.specs.declared.at_start.Copied.{Copied}
 use Rattle.pl_change.specs.declared.command.Command.{Command}
+use Rattle.pl_journal.specs.ByKey.{IsFoundFor}
 use Rattle.pl_journal.specs.Rows.{tables_of}
 use Rattle.pl_query.specs.Query.{rows}
 use Rattle.pl_query.specs.Rows.{in_turn}
@@ -103,3 +104,21 @@ module _ {W : Type 0} (calls : Calls W) (these those : Sub W) where
 
   abbrev pub ChangeIsSame : RChange → Type 0
   ChangeIsSame change = AreSame change.returning × WhatIsSame change.what
+
+-- ---- rows that a command has to visit
+
+abbrev pub listed : Option ℕ → List ℕ
+listed None = []
+listed (Some id) = id ∷ []
+
+-- WHERE turns down all rows but those of these ids
+pub record IsFew (name : List ℕ) (condition : Option RExpr) (around : Frame) (ts : List Named)
+    (made : List ℕ) : Type 0 where
+  pub found : Option ℕ
+  pub by : IsFoundFor name condition around ts found
+  pub few : made ≡ listed found
+
+-- these are the ids of all rows, or of those that a command has to visit
+abbrev pub AreEnough : List ℕ → Option RExpr → Frame → List Named → List ℕ → Type 0
+AreEnough name condition around ts made =
+    (made ≡ ids name ts) ⊎ IsFew name condition around ts made

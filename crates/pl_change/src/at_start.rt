@@ -11,6 +11,7 @@ ghost use Rattle.pl_value.specs.Frames.{rows_of};
 use pl_base::{Cells, List, Name, Value, copy_each};
 use pl_journal::Journal;
 use pl_query::Tables;
+use pl_resolved::RExpr;
 use pl_tables::Slot;
 use pl_value::Lent;
 use std::alloc::{AllocError, Global};
@@ -33,6 +34,17 @@ impl Tables for Copies {
 
     fn read<'t>(&'t self, alloc: Global, name: Name) -> Result<Vec<Lent<'t>>, AllocError> {
         lend_rows(alloc, rows_in(self.list.as_slice(), name))
+    }
+
+    // A copy has no keys.
+    fn read_for<'t, 'e, C>(
+        &'t self,
+        _: Global,
+        _: Name,
+        _: &'e RExpr,
+        _: &[Lent<'e>],
+    ) -> Result<Option<Vec<Lent<'t>>>, AllocError> {
+        Ok(None)
     }
 }
 

@@ -11,6 +11,6 @@ mod rows;
 mod writing;
 
 pub use at_start::{Copied, Copies, copy_row, copy_tables};
-pub use by_key::{Candidates, candidates_for};
 pub use command::Command;
 pub use commands::change;
+pub use pl_journal::{Candidates, candidates_for};

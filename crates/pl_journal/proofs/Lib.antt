@@ -17,3 +17,7 @@ pub mod Fronts
 pub mod Writes
 pub mod Opening
 pub mod CarriedOut
+pub mod Noted
+pub mod Asked
+pub mod TurnedDown
+pub mod LeftOut

@@ -3,6 +3,7 @@ pub mod Writing
 pub mod Definitions
 pub mod Operation
 pub mod Sound
+pub mod ByKey
 pub mod Whole
 pub mod Written
 pub mod Journal

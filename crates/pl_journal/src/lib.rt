@@ -3,6 +3,7 @@
 #![tactic(auto)]
 
 mod applying;
+mod by_key;
 mod defining;
 mod journal;
 mod lending;
@@ -11,5 +12,6 @@ mod spelling;
 mod whole;
 mod writing;
 
+pub use by_key::{Candidates, candidates_for};
 pub use journal::Journal;
 pub use whole::whole_leads_to_itself;

@@ -2,4 +2,6 @@
 #![tactic(auto)]
 
 #[cfg(test)]
+mod lookups;
+#[cfg(test)]
 mod tests;

@@ -10,4 +10,5 @@ mod Chosen
 mod Kept
 mod KeptTables
 mod Whole
+mod Few
 mod Standing

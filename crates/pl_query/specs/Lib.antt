@@ -1,6 +1,8 @@
 pub mod Sources
 pub mod Rows
 pub mod Query
+pub mod LeftOut
+pub mod Few
 pub mod Draws
 pub mod Running
 pub mod Serves

@@ -1,14 +1,17 @@
 //! The tables that a statement reads, and what is kept of them while it runs.
 
-ghost use Rattle.std.specs.Prelude.{◌≡◌, IfOk, List, ℕ};
+ghost use Rattle.std.specs.Prelude.{◌≡◌, IfOk, IfSome, List, ℕ};
 ghost use Rattle.pl_base.specs.declared.value.Value as base;
+ghost use Rattle.pl_query.specs.LeftOut.{IsFew};
 ghost use Rattle.pl_query.specs.Sources.{alone};
+ghost use Rattle.pl_value.specs.Frames.{rows_of};
 
 use crate::Tables;
 use crate::cache::{KeptTable, find, keep_all};
 use crate::draws::Draw;
 use pl_base::Name;
-use pl_resolved::RQuery;
+use pl_resolved::{RExpr, RQuery};
+use pl_value::Lent;
 use std::alloc::{AllocError, Global};
 use std::marker::Model;
 
@@ -20,6 +23,18 @@ pub trait Lender {
     /// The rows of the table of this name, as an item of FROM.
     fn draw_table<'s>(&'s self, alloc: Global, name: Name) -> Result<Draw<'s>, AllocError>
         ensures { IfOk result (λ d. d ≡ alone (table self.now name)) };
+
+    /// The rows of the table of this name that the condition may pass behind the rows around, as an
+    /// item of FROM, where they are found without the others. None where they aren't.
+    fn draw_few<'s, 'e, C>(
+        &'s self,
+        alloc: Global,
+        name: Name,
+        condition: &'e RExpr,
+        around: &[Lent<'e>],
+    ) -> Result<Option<Draw<'s>>, AllocError>
+        ensures { IfOk result (λ few. IfSome few (λ d. IsFew C condition.now (rows_of around.now)
+            (table self.now name) d)) };
 }
 
 /// The tables, and the rows of those that queries inside of others read. Contracts see the tables
@@ -66,6 +81,23 @@ impl<'t, T: Tables> Store<'t, T> {
             None => read_table(alloc, self.tables, name),
         }
     }
+
+    // Its rows that the condition may pass. Where it is kept, they are found by what is kept.
+    fn draw_for<'s, 'e, C>(
+        &'s self,
+        alloc: Global,
+        name: Name,
+        condition: &'e RExpr,
+        around: &[Lent<'e>],
+    ) -> Result<Option<Draw<'s>>, AllocError>
+        ensures { IfOk result (λ few. IfSome few (λ d. IsFew C condition.now (rows_of around.now)
+            (T.table self.now name) d)) }
+    {
+        match find(self.kept.as_slice(), name) {
+            Some(_) => Ok(None),
+            None => read_few::<C, T>(alloc, self.tables, name, condition, around),
+        }
+    }
 }
 
 impl<'t, T: Tables> Lender for Store<'t, T> {
@@ -73,6 +105,16 @@ impl<'t, T: Tables> Lender for Store<'t, T> {
 
     fn draw_table<'s>(&'s self, alloc: Global, name: Name) -> Result<Draw<'s>, AllocError> {
         self.draw(alloc, name)
+    }
+
+    fn draw_few<'s, 'e, C>(
+        &'s self,
+        alloc: Global,
+        name: Name,
+        condition: &'e RExpr,
+        around: &[Lent<'e>],
+    ) -> Result<Option<Draw<'s>>, AllocError> {
+        self.draw_for::<C>(alloc, name, condition, around)
     }
 }
 
@@ -85,4 +127,21 @@ fn read_table<'t, T: Tables>(
     ensures { IfOk result (λ d. d ≡ alone (T.table tables.now name)) }
 {
     Ok(Draw::of_table(alloc, tables.read(alloc, name)?))
+}
+
+// Its rows that the condition may pass.
+fn read_few<'t, 'e, C, T: Tables>(
+    alloc: Global,
+    tables: &'t T,
+    name: Name,
+    condition: &'e RExpr,
+    around: &[Lent<'e>],
+) -> Result<Option<Draw<'t>>, AllocError>
+    ensures { IfOk result (λ few. IfSome few (λ d. IsFew C condition.now (rows_of around.now)
+        (T.table tables.now name) d)) }
+{
+    match tables.read_for::<C>(alloc, name, condition, around)? {
+        Some(rows) => Ok(Some(Draw::of_table(alloc, rows))),
+        None => Ok(None),
+    }
 }

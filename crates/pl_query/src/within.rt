@@ -170,7 +170,9 @@ pub fn evaluate<'a, C: Caller, T: Tables>(
         e.now (rows_of frame.now) caller.old)
         result caller.new }
 {
-    let store = Store::new(alloc, &*tables, &*queries, frame.len())?;
+    // The last query is inside of no other, so what it reads needn't be kept.
+    let inner = before(&*queries, queries.len().saturating_sub(1));
+    let store = Store::new(alloc, &*tables, inner, frame.len())?;
     let inside = Queries {
         list: &*queries,
         tables: &store,

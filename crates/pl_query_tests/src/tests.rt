@@ -238,6 +238,16 @@ impl Tables for OneTable {
     fn read<'t>(&'t self, alloc: Global, _: Name) -> Result<Vec<Lent<'t>>, AllocError> {
         lend_rows(alloc, self.rows.as_slice())
     }
+
+    fn read_for<'t, 'e, C>(
+        &'t self,
+        _: Global,
+        _: Name,
+        _: &'e RExpr,
+        _: &[Lent<'e>],
+    ) -> Result<Option<Vec<Lent<'t>>>, AllocError> {
+        Ok(None)
+    }
 }
 
 fn number(n: Option<i32>) -> Value {

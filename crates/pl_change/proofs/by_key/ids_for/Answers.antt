@@ -1,6 +1,7 @@
 use Rattle.std.proofs.Common.{◌≡◌, inl, inr, subst}
-use Rattle.pl_change.proofs.Noted.{if_ok_then}
-use Rattle.pl_change.specs.ByKey.{AreEnough, AreFoundFor, IsFoundFor, listed}
+use Rattle.pl_journal.proofs.Noted.{if_ok_then}
+use Rattle.pl_change.specs.Running.{AreEnough, listed}
+use Rattle.pl_journal.specs.ByKey.{AreFoundFor, IsFoundFor}
 use Rattle.pl_change.specs.Changes.{ids}
 use Rattle.pl_value.specs.Frames.{rows_of}
 use Rattle.pl_change.proofs.by_key.ids_for.Goals as goal

@@ -1,7 +1,7 @@
 use Rattle.std.proofs.Common.{sym, subst, ℕ, List, []}
 use Rattle.pl_change.proofs.LeftOut.{updates_enough}
 use Rattle.pl_change.proofs.Turns.{same_reads}
-use Rattle.pl_change.specs.ByKey.{AreEnough}
+use Rattle.pl_change.specs.Running.{AreEnough}
 use Rattle.pl_change.specs.Changes.{Progress, ids, progress, updates}
 use Rattle.pl_change.specs.Running.{reached, setting_of}
 use Rattle.pl_journal.proofs.OneTable.{only_same}
