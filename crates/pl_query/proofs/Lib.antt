@@ -12,3 +12,4 @@ mod KeptTables
 mod Whole
 mod Few
 mod Standing
+mod Passing

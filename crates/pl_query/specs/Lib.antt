@@ -4,6 +4,8 @@ pub mod Query
 pub mod LeftOut
 pub mod Few
 pub mod Draws
+pub mod Listed
 pub mod Running
 pub mod Serves
 pub mod Kept
+pub mod Along

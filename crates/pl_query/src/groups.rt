@@ -207,8 +207,8 @@ fn count_of(groups: &RGroups, firsts: &Frames<'_>) -> usize
     }
 }
 
-// The rows of the groups.
-fn select_groups<'a, C: Caller, S: Subqueries<C>>(
+/// The rows of the groups.
+pub fn select_groups<'a, C: Caller, S: Subqueries<C>>(
     alloc: Global,
     groups: &'a RGroups,
     items: &'a [RExpr],

@@ -1,10 +1,12 @@
 //! The rows of queries: PostgreSQL manual, "Queries".
 #![tactic(auto)]
 
+mod along;
 mod cache;
 mod draws;
 mod ending;
 mod groups;
+mod listed;
 mod query;
 mod rows;
 mod running;
