@@ -8,11 +8,11 @@ use Rattle.pl_grammar.specs.Marks.{Tokens, kinds}
 use Rattle.pl_grammar.specs.Parser.{Outcome}
 use Rattle.pl_grammar.specs.Relations.{with_mark, without, made}
 use Rattle.pl_grammar.specs.Rule.{SpelledBy, Within as Derived}
-use Rattle.pl_body_pieces.specs.Grammar.{Part, Tree, BlockPiece, CasePiece, DeclarationPiece, rule}
-use Rattle.pl_body_pieces.specs.FirstFollow.{reads_part, empty, follow_last}
-use Rattle.pl_body_pieces.specs.declared.parts.Piece.{Piece}
-use Rattle.pl_body_pieces.specs.declared.parts.Piece.TheVariants as piece
-use Rattle.pl_body_pieces.proofs.Theorem.{lawful}
+use Rattle.pl_body_grammar.specs.Grammar.{Part, Tree, BlockPiece, CasePiece, DeclarationPiece, rule}
+use Rattle.pl_body_grammar.specs.FirstFollow.{reads_part, empty, follow_last}
+use Rattle.pl_body_grammar.specs.declared.parts.Piece.{Piece}
+use Rattle.pl_body_grammar.specs.declared.parts.Piece.TheVariants as piece
+use Rattle.pl_body_grammar.proofs.Theorem.{lawful}
 use Rattle.pl_body_parse.specs.Computed.{Taken, counted, reads_piece, piece_at, declared_at}
 use Rattle.pl_body_parse.specs.Spells.{Is}
 

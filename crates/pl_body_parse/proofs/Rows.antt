@@ -16,10 +16,10 @@ use Rattle.pl_body_items.proofs.OneTree.{one_tree, handler_in_block, arm_in_case
 use Rattle.pl_grammar.specs.Marks.{Tokens, kinds, sees, after, begins, same_keyword, same_sign}
 use Rattle.pl_grammar.specs.Rule.{read_part}
 use Rattle.pl_grammar.specs.Parser.{expect, take as take_token, joins}
-use Rattle.pl_body_pieces.specs.Ahead.{sees_pair}
-use Rattle.pl_body_pieces.specs.Grammar.{BlockPiece, CasePiece}
-use Rattle.pl_body_pieces.specs.FirstFollow.{reads_part}
-use Rattle.pl_body_pieces.specs.declared.parts.Piece.{Piece}
+use Rattle.pl_body_grammar.specs.Ahead.{sees_pair}
+use Rattle.pl_body_grammar.specs.Grammar.{BlockPiece, CasePiece}
+use Rattle.pl_body_grammar.specs.FirstFollow.{reads_part}
+use Rattle.pl_body_grammar.specs.declared.parts.Piece.{Piece}
 use Rattle.pl_body_parse.specs.Computed.{Taken, counted, reads_piece, piece_at, itemed, or_item, item_at, made_with, taken, read_from, body_of_tokens}
 use Rattle.pl_body_parse.specs.Spells.{Name, Stands, bare_end, next, Row, no_item, one_more, bare, SpellsBody, NoneSpells}
 use Rattle.pl_body_parse.proofs.Found.{pair_is, drop_front, found_piece}

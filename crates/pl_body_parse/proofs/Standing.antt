@@ -10,9 +10,9 @@ use Rattle.pl_bodies.specs.declared.statement.LoopHead.{LoopHead}
 use Rattle.pl_body_items.specs.declared.items.Item.{Item}
 use Rattle.pl_body_items.specs.declared.items.Item.TheVariants as i
 use Rattle.pl_body_items.specs.declared.items.Spot.{Spot}
-use Rattle.pl_body_pieces.specs.Grammar.{BlockPiece, CasePiece, DeclarationPiece}
-use Rattle.pl_body_pieces.specs.declared.parts.Piece.{Piece}
-use Rattle.pl_body_pieces.specs.declared.parts.Piece.TheVariants as piece
+use Rattle.pl_body_grammar.specs.Grammar.{BlockPiece, CasePiece, DeclarationPiece}
+use Rattle.pl_body_grammar.specs.declared.parts.Piece.{Piece}
+use Rattle.pl_body_grammar.specs.declared.parts.Piece.TheVariants as piece
 use Rattle.pl_body_parse.specs.Computed.{Taken, piece_at, declared_at, behind, taking, plain, declared, declaring, headed, after_label, labelled, itemed}
 use Rattle.pl_body_parse.specs.Spells.{Name, Is, Labelled, unlabelled, Declares, begins, declares, Stands, alone, arm, definition, block, turns, item_of, line_of, spot_of, labelled as has_label, declaring as has_declarations}
 use Rattle.pl_body_parse.proofs.Found.{pair_is, drop_front, take_front, some_tokens, not_arm, not_handler, Known, in_block, an_arm, FoundPiece, found_piece, found_declared, finds_in_block, finds_arm, finds_declared}

@@ -9,8 +9,8 @@ use Rattle.pl_body_items.specs.declared.items.Item.{Item}
 use Rattle.pl_body_items.specs.declared.items.Item.TheVariants as i
 use Rattle.pl_body_items.specs.declared.items.Spot.{Spot}
 use Rattle.pl_body_items.specs.declared.items.Word.{Word}
-use Rattle.pl_body_pieces.specs.declared.parts.Piece.{Piece}
-use Rattle.pl_body_pieces.specs.declared.parts.Piece.TheVariants as piece
+use Rattle.pl_body_grammar.specs.declared.parts.Piece.{Piece}
+use Rattle.pl_body_grammar.specs.declared.parts.Piece.TheVariants as piece
 use Rattle.pl_body_parse.specs.Computed.{word_of, tree_item, blocked, plain, taking}
 use Rattle.pl_body_parse.specs.Spells.{Name, item_of, spot_of}
 use Rattle.pl_body_parse.proofs.Found.{pair_is}

@@ -7,8 +7,8 @@ use Rattle.pl_body_items.specs.Steps.{step, in_case}
 use Rattle.pl_body_items.specs.declared.items.Item.{Item}
 use Rattle.pl_body_items.specs.declared.items.Item.TheVariants as i
 use Rattle.pl_body_items.specs.declared.making.Making.{Making}
-use Rattle.pl_body_pieces.specs.declared.parts.Piece.{Piece}
-use Rattle.pl_body_pieces.specs.declared.parts.Piece.TheVariants as piece
+use Rattle.pl_body_grammar.specs.declared.parts.Piece.{Piece}
+use Rattle.pl_body_grammar.specs.declared.parts.Piece.TheVariants as piece
 use Rattle.pl_body_parse.specs.Computed.{Taken, declared_at, behind, is_begin, declaration_of, declared, declaring, item_at, made_with, taken, read_from}
 use Rattle.pl_body_parse.specs.Spells.{Name, line_of, next, spot_of}
 

@@ -19,10 +19,10 @@ use Rattle.pl_body_items.specs.declared.items.Spot.{Spot}
 use Rattle.pl_body_items.specs.declared.making.Making.{Making}
 use Rattle.pl_grammar.specs.Marks.{kinds}
 use Rattle.pl_grammar.specs.Parser.{Outcome, Parser}
-use Rattle.pl_body_pieces.specs.Grammar.{BlockPiece, CasePiece, DeclarationPiece}
-use Rattle.pl_body_pieces.specs.FirstFollow.{reads_part}
-use Rattle.pl_body_pieces.specs.declared.parts.Piece.{Piece}
-use Rattle.pl_body_pieces.specs.declared.parts.Piece.TheVariants as piece
+use Rattle.pl_body_grammar.specs.Grammar.{BlockPiece, CasePiece, DeclarationPiece}
+use Rattle.pl_body_grammar.specs.FirstFollow.{reads_part}
+use Rattle.pl_body_grammar.specs.declared.parts.Piece.{Piece}
+use Rattle.pl_body_grammar.specs.declared.parts.Piece.TheVariants as piece
 use Rattle.pl_body_parse.specs.Spells.{Name, bare_end, item_of, line_of, next, spot_of}
 
 -- what is read, and how many tokens it takes

@@ -24,9 +24,9 @@ use Rattle.pl_grammar.specs.Marks.{Tokens, kinds}
 use Rattle.pl_grammar.specs.Rule.{SpelledBy}
 use Rattle.pl_grammar.specs.declared.fail.ParseFail.{ParseFail}
 use Rattle.pl_grammar.specs.declared.fail.ParseFail.TheVariants as fail
-use Rattle.pl_body_pieces.specs.Grammar.{Part, Tree, BlockPiece, CasePiece, DeclarationPiece, rule}
-use Rattle.pl_body_pieces.specs.declared.parts.Piece.{Piece}
-use Rattle.pl_body_pieces.specs.declared.parts.Piece.TheVariants as piece
+use Rattle.pl_body_grammar.specs.Grammar.{Part, Tree, BlockPiece, CasePiece, DeclarationPiece, rule}
+use Rattle.pl_body_grammar.specs.declared.parts.Piece.{Piece}
+use Rattle.pl_body_grammar.specs.declared.parts.Piece.TheVariants as piece
 
 -- ---- where items stand
 

@@ -7,26 +7,21 @@ ghost use Rattle.pl_grammar.specs.Parser.{Reads};
 ghost use Rattle.pl_grammar.specs.Rule.{SpelledBy, fork, make, part, ◌before◌, ◌until◌};
 ghost use Rattle.pl_grammar.specs.Words.{CASE, WHEN};
 ghost use Rattle.pl_sql_parse.specs.Words.{FOR};
-ghost use Rattle.pl_body_pieces.specs.Words.{SEMICOLON, WHILE};
-ghost use Rattle.pl_body_pieces.specs.declared.parts.Piece.TheVariants as piece;
-ghost use Rattle.pl_body_pieces.specs.Grammar as spec;
-ghost use Rattle.pl_body_pieces.specs.FirstFollow.{follow_last, reads, reads_part};
+ghost use Rattle.pl_body_grammar.specs.Words.{SEMICOLON, WHILE};
+ghost use Rattle.pl_body_grammar.specs.declared.parts.Piece.TheVariants as piece;
+ghost use Rattle.pl_body_grammar.specs.Grammar as spec;
+ghost use Rattle.pl_body_grammar.specs.FirstFollow.{follow_last, reads, reads_part};
 
-use crate::ahead::sees_pair;
-use crate::commands::command;
-use crate::control::control;
-use crate::cursors::cursor;
-use crate::declarations::declared;
-use crate::loops::for_head;
 use crate::marks::{ASSIGNING, CONTROL, CURSOR, DEFINITION, OPENING};
-use crate::parts::Piece;
-use crate::raise::handler;
-use crate::steps::until;
-use crate::values::{
-    becomes, boxed_expression, expression_until, expressions, optional_name, target,
-};
 use pl_base::{Boxed, List, Name};
 use pl_bodies::{LoopHead, Simple};
+use pl_body_commands::{command, for_head};
+use pl_body_control::{control, handler};
+use pl_body_cursors::{cursor, declared};
+use pl_body_grammar::{
+    Piece, becomes, boxed_expression, expression_until, expressions, optional_name, sees_pair,
+    target, until,
+};
 use pl_grammar::{Fail, Mark, Tokens};
 use pl_lex::{Keyword, Sign};
 use pl_sql_parse::read_definition;
@@ -144,10 +139,16 @@ fn ended(tokens: &mut Tokens<'_>) -> Result<Piece, Fail>
     ensures { Reads (reads_part spec.Ended tokens.old) result tokens.new }
 {
     if tokens.eat(Mark::Keyword(Keyword::If)) {
-        return until(Ok(Piece::EndIf), tokens, Mark::Sign(Sign::Semicolon));
+        return match tokens.expect(Mark::Sign(Sign::Semicolon)) {
+            Ok(()) => Ok(Piece::EndIf),
+            Err(fail) => Err(fail),
+        };
     }
     if tokens.eat(Mark::Keyword(Keyword::Case)) {
-        return until(Ok(Piece::EndCase), tokens, Mark::Sign(Sign::Semicolon));
+        return match tokens.expect(Mark::Sign(Sign::Semicolon)) {
+            Ok(()) => Ok(Piece::EndCase),
+            Err(fail) => Err(fail),
+        };
     }
     if tokens.eat(Mark::Keyword(Keyword::Loop)) {
         return match ended_label(tokens) {
@@ -197,11 +198,10 @@ fn statement(alloc: Global, tokens: &mut Tokens<'_>) -> Result<Piece, Fail>
     ensures { Reads (reads_part spec.Statement tokens.old) result tokens.new }
 {
     if tokens.eat(Mark::Keyword(Keyword::Null)) {
-        return until(
-            Ok(Piece::Simple(Simple::Null)),
-            tokens,
-            Mark::Sign(Sign::Semicolon),
-        );
+        return match tokens.expect(Mark::Sign(Sign::Semicolon)) {
+            Ok(()) => Ok(Piece::Simple(Simple::Null)),
+            Err(fail) => Err(fail),
+        };
     }
     if tokens.begins(&DEFINITION) {
         let definition = read_definition(alloc, tokens);

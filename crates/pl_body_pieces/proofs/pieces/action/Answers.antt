@@ -1,6 +1,6 @@
 use Rattle.std.proofs.Common.{refl}
-use Rattle.pl_body_pieces.specs.Grammar.{Action}
-use Rattle.pl_body_pieces.proofs.Step.{was, gives, so_read, begun, other}
+use Rattle.pl_body_grammar.specs.Grammar.{Action}
+use Rattle.pl_body_grammar.proofs.Step.{was, gives, so_read, begun, other}
 use Rattle.pl_body_pieces.proofs.pieces.action.Goals as goal
 
 pub returns-then-begins : goal.returns-then-begins

@@ -1,6 +1,6 @@
 use Rattle.std.proofs.Common.{refl}
-use Rattle.pl_body_pieces.specs.Grammar.{Assignment}
-use Rattle.pl_body_pieces.proofs.Step.{was, gives, makes, makes_none, pairs, first_none, second_none}
+use Rattle.pl_body_grammar.specs.Grammar.{Assignment}
+use Rattle.pl_body_grammar.proofs.Step.{was, gives, makes, makes_none, pairs, first_none, second_none}
 use Rattle.pl_body_pieces.proofs.pieces.assignment.Goals as goal
 
 pub returns-in-Err : goal.returns-in-Err

@@ -1,6 +1,6 @@
 use Rattle.std.proofs.Common.{refl}
-use Rattle.pl_body_pieces.specs.Grammar as spec
-use Rattle.pl_body_pieces.proofs.Step.{was, reading, so_read, told, untold, makes, makes_none}
+use Rattle.pl_body_grammar.specs.Grammar as spec
+use Rattle.pl_body_grammar.proofs.Step.{was, reading, so_read, told, untold, makes, makes_none}
 use Rattle.pl_body_pieces.proofs.pieces.assignment_or_other.Goals as goal
 
 pub returns : goal.returns

@@ -1,11 +1,11 @@
 use Rattle.std.proofs.Common.{refl}
-use Rattle.pl_body_pieces.specs.declared.parts.Piece.TheVariants as piece
-use Rattle.pl_body_pieces.specs.Grammar as spec
+use Rattle.pl_body_grammar.specs.declared.parts.Piece.TheVariants as piece
+use Rattle.pl_body_grammar.specs.Grammar as spec
 use Rattle.pl_grammar.specs.Words.{CASE}
 use Rattle.pl_sql_parse.specs.Words.{FOR}
-use Rattle.pl_body_pieces.specs.Words.{WHILE}
+use Rattle.pl_body_grammar.specs.Words.{WHILE}
 use Rattle.pl_grammar.specs.Rule.{fork, make, part, ◌before◌}
-use Rattle.pl_body_pieces.proofs.Step.{was, reading, so_read, took, left, behind, absent, makes, makes_none}
+use Rattle.pl_body_grammar.proofs.Step.{was, reading, so_read, took, left, behind, absent, makes, makes_none}
 use Rattle.pl_body_pieces.proofs.pieces.case_or_loop.Goals as goal
 
 pub returns-in-Ok : goal.returns-in-Ok

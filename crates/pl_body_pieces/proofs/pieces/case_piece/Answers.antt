@@ -1,6 +1,6 @@
 use Rattle.std.proofs.Common.{refl}
-use Rattle.pl_body_pieces.specs.Grammar.{CasePiece}
-use Rattle.pl_body_pieces.proofs.Step.{was, gives, so_read, took, left, makes, makes_none}
+use Rattle.pl_body_grammar.specs.Grammar.{CasePiece}
+use Rattle.pl_body_grammar.proofs.Step.{was, gives, so_read, took, left, makes, makes_none}
 use Rattle.pl_body_pieces.proofs.pieces.case_piece.Goals as goal
 
 pub returns : goal.returns

@@ -1,6 +1,6 @@
 use Rattle.std.proofs.Common.{refl}
-use Rattle.pl_body_pieces.specs.Grammar.{DeclarationPiece}
-use Rattle.pl_body_pieces.proofs.Step.{was, gives, took, left, makes, makes_none, pairs, first_none, second_none}
+use Rattle.pl_body_grammar.specs.Grammar.{DeclarationPiece}
+use Rattle.pl_body_grammar.proofs.Step.{was, gives, took, left, makes, makes_none, pairs, first_none, second_none}
 use Rattle.pl_body_pieces.proofs.pieces.declaration_piece.Goals as goal
 
 pub returns-then-eat : goal.returns-then-eat

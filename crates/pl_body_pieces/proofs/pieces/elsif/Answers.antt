@@ -1,9 +1,9 @@
 use Rattle.std.proofs.Common.{refl}
-use Rattle.pl_body_pieces.specs.declared.parts.Piece.TheVariants as piece
-use Rattle.pl_body_pieces.specs.Grammar as spec
+use Rattle.pl_body_grammar.specs.declared.parts.Piece.TheVariants as piece
+use Rattle.pl_body_grammar.specs.Grammar as spec
 use Rattle.pl_grammar.specs.Rule.{make, part}
-use Rattle.pl_body_pieces.specs.Grammar.{Condition}
-use Rattle.pl_body_pieces.proofs.Step.{was, reading, gives, makes, makes_none}
+use Rattle.pl_body_grammar.specs.Grammar.{Condition}
+use Rattle.pl_body_grammar.proofs.Step.{was, reading, gives, makes, makes_none}
 use Rattle.pl_body_pieces.proofs.pieces.elsif.Goals as goal
 
 pub returns-in-Ok : goal.returns-in-Ok

@@ -1,9 +1,9 @@
 use Rattle.std.proofs.Common.{refl}
-use Rattle.pl_body_pieces.specs.declared.parts.Piece.TheVariants as piece
-use Rattle.pl_body_pieces.specs.Grammar as spec
+use Rattle.pl_body_grammar.specs.declared.parts.Piece.TheVariants as piece
+use Rattle.pl_body_grammar.specs.Grammar as spec
 use Rattle.pl_grammar.specs.Words.{WHEN}
 use Rattle.pl_grammar.specs.Rule.{make, part, ◌before◌}
-use Rattle.pl_body_pieces.proofs.Step.{was, reading, behind, absent, makes, makes_none}
+use Rattle.pl_body_grammar.proofs.Step.{was, reading, behind, absent, makes, makes_none}
 use Rattle.pl_body_pieces.proofs.pieces.exception.Goals as goal
 
 pub returns : goal.returns

@@ -1,6 +1,6 @@
 use Rattle.std.proofs.Common.{refl}
-use Rattle.pl_body_pieces.specs.Grammar.{FirstArm}
-use Rattle.pl_body_pieces.proofs.Step.{was, gives, took, left, makes, makes_none, pairs, first_none, second_none}
+use Rattle.pl_body_grammar.specs.Grammar.{FirstArm}
+use Rattle.pl_body_grammar.proofs.Step.{was, gives, took, left, makes, makes_none, pairs, first_none, second_none}
 use Rattle.pl_body_pieces.proofs.pieces.first_arm.Goals as goal
 
 pub returns-in-Ok : goal.returns-in-Ok

@@ -1,6 +1,6 @@
 use Rattle.std.proofs.Common.{refl}
-use Rattle.pl_body_pieces.specs.Grammar.{Opening, Condition}
-use Rattle.pl_body_pieces.proofs.Step.{was, gives, so_read, took, left, makes, makes_none}
+use Rattle.pl_body_grammar.specs.Grammar.{Opening, Condition}
+use Rattle.pl_body_grammar.proofs.Step.{was, gives, so_read, took, left, makes, makes_none}
 use Rattle.pl_body_pieces.proofs.pieces.opening.Goals as goal
 
 pub returns-in-Ok : goal.returns-in-Ok

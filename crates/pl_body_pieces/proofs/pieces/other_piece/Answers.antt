@@ -1,6 +1,6 @@
 use Rattle.std.proofs.Common.{refl}
-use Rattle.pl_body_pieces.specs.Grammar.{OtherPiece}
-use Rattle.pl_body_pieces.proofs.Step.{was, gives, so_read, took, left, begun, other, makes, makes_none}
+use Rattle.pl_body_grammar.specs.Grammar.{OtherPiece}
+use Rattle.pl_body_grammar.proofs.Step.{was, gives, so_read, took, left, begun, other, makes, makes_none}
 use Rattle.pl_body_pieces.proofs.pieces.other_piece.Goals as goal
 
 pub returns-in-Ok : goal.returns-in-Ok

@@ -1,6 +1,6 @@
 use Rattle.std.proofs.Common.{refl}
-use Rattle.pl_body_pieces.specs.Grammar.{Piece}
-use Rattle.pl_body_pieces.proofs.Step.{was, gives, so_read, took, left}
+use Rattle.pl_body_grammar.specs.Grammar.{Piece}
+use Rattle.pl_body_grammar.proofs.Step.{was, gives, so_read, took, left}
 use Rattle.pl_body_pieces.proofs.pieces.piece.Goals as goal
 
 pub returns-then-eat : goal.returns-then-eat

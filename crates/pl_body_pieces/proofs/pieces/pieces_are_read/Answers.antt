@@ -1,4 +1,4 @@
-use Rattle.pl_body_pieces.proofs.Theorem.{lawful}
+use Rattle.pl_body_grammar.proofs.Theorem.{lawful}
 use Rattle.pl_body_pieces.proofs.pieces.pieces_are_read.Goals as goal
 
 pub returns-clause-spelled : goal.returns-clause-spelled

@@ -1,5 +1,5 @@
-use Rattle.pl_body_pieces.specs.Grammar.{Values}
-use Rattle.pl_body_pieces.proofs.Step.{reads_rule}
+use Rattle.pl_body_grammar.specs.Grammar.{Values}
+use Rattle.pl_body_grammar.proofs.Step.{reads_rule}
 use Rattle.pl_body_pieces.proofs.pieces.values.Goals as goal
 
 pub returns : goal.returns

@@ -1,6 +1,6 @@
 use Rattle.std.proofs.Common.{refl}
-use Rattle.pl_body_pieces.specs.Grammar as spec
-use Rattle.pl_body_pieces.proofs.Step.{was, reading, makes, makes_none}
+use Rattle.pl_body_grammar.specs.Grammar as spec
+use Rattle.pl_body_grammar.proofs.Step.{was, reading, makes, makes_none}
 use Rattle.pl_body_pieces.proofs.pieces.while_head.Goals as goal
 
 pub returns-in-Ok : goal.returns-in-Ok

@@ -1,0 +1,16 @@
+use Rattle.std.proofs.Common.{refl}
+use Rattle.pl_body_grammar.specs.Grammar.{OtherCommand}
+use Rattle.pl_body_grammar.proofs.Step.{was, gives, so_read, took, left}
+use Rattle.pl_body_commands.proofs.commands.other_command.Goals as goal
+
+pub returns-then-eat : goal.returns-then-eat
+returns-then-eat c = so_read _ _ _ _ (gives OtherCommand _ _ (took _ _ _ _ _ _ _ _ refl c.eat.ensures.result c.if-eat.true c.eat.ensures.new (was _ _ _ refl))) (c.until.ensures _ c.read_do_body-command.ensures)
+
+pub returns-then-eat-2 : goal.returns-then-eat-2
+returns-then-eat-2 c = so_read _ _ _ _ (gives OtherCommand _ _ (left _ _ _ _ _ _ _ _ refl c.eat.ensures.result c.if-eat.false c.eat.ensures.new (took _ _ _ _ _ _ _ _ refl c.eat-2.ensures.result c.if-eat-2.true c.eat-2.ensures.new (was _ _ _ refl)))) (c.until-then-eat-2.ensures _ c.read_call-command.ensures)
+
+pub returns-then-eat-3 : goal.returns-then-eat-3
+returns-then-eat-3 c = so_read _ _ _ _ (gives OtherCommand _ _ (left _ _ _ _ _ _ _ _ refl c.eat.ensures.result c.if-eat.false c.eat.ensures.new (left _ _ _ _ _ _ _ _ refl c.eat-2.ensures.result c.if-eat-2.false c.eat-2.ensures.new (took _ _ _ _ _ _ _ _ refl c.eat-3.ensures.result c.if-eat-3.true c.eat-3.ensures.new (was _ _ _ refl))))) c.started.ensures
+
+pub returns : goal.returns
+returns c = so_read _ _ _ _ (gives OtherCommand _ _ (left _ _ _ _ _ _ _ _ refl c.eat.ensures.result c.if-eat.false c.eat.ensures.new (left _ _ _ _ _ _ _ _ refl c.eat-2.ensures.result c.if-eat-2.false c.eat-2.ensures.new (left _ _ _ _ _ _ _ _ refl c.eat-3.ensures.result c.if-eat-3.false c.eat-3.ensures.new (was _ _ _ refl))))) c.savepoint_command.ensures

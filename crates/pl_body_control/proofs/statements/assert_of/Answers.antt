@@ -1,0 +1,13 @@
+use Rattle.std.proofs.Common.{refl}
+use Rattle.pl_body_grammar.specs.Grammar.{Assert}
+use Rattle.pl_body_grammar.proofs.Step.{was, gives, makes, makes_none, pairs, first_none, second_none, until_last}
+use Rattle.pl_body_control.proofs.statements.assert_of.Goals as goal
+
+pub returns-in-Ok-until : goal.returns-in-Ok-until
+returns-in-Ok-until c = gives Assert _ _ (makes _ _ _ _ _ _ _ refl (until_last _ _ _ _ _ _ refl (pairs _ _ _ _ _ _ _ _ refl (was _ _ _ c.in-Ok.ensures) (was _ _ _ (c.in-Ok-until.ensures _ c.optional_expression-message.ensures)))) refl)
+
+pub returns-in-Err-until : goal.returns-in-Err-until
+returns-in-Err-until c = λ s. gives Assert _ _ (makes_none _ _ _ _ refl (until_last _ _ _ _ _ _ refl (second_none _ _ _ _ _ _ refl (was _ _ _ c.in-Ok.ensures) (was _ _ _ (c.in-Err-until.ensures _ c.optional_expression-message.ensures s)))))
+
+pub returns-in-Err : goal.returns-in-Err
+returns-in-Err c = λ s. gives Assert _ _ (makes_none _ _ _ _ refl (until_last _ _ _ _ _ _ refl (first_none _ _ _ _ refl (was _ _ _ (c.in-Err.ensures s)))))

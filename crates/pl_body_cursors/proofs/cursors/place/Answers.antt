@@ -1,0 +1,19 @@
+use Rattle.std.proofs.Common.{refl}
+use Rattle.pl_body_grammar.specs.Grammar.{Place}
+use Rattle.pl_body_grammar.proofs.Step.{was, gives, so_read, took, left}
+use Rattle.pl_body_cursors.proofs.cursors.place.Goals as goal
+
+pub returns-then-eat : goal.returns-then-eat
+returns-then-eat c = gives Place _ _ (took _ _ _ _ _ _ _ _ refl c.eat.ensures.result c.if-eat.true c.eat.ensures.new (was _ _ _ refl))
+
+pub returns-then-eat-2 : goal.returns-then-eat-2
+returns-then-eat-2 c = gives Place _ _ (left _ _ _ _ _ _ _ _ refl c.eat.ensures.result c.if-eat.false c.eat.ensures.new (took _ _ _ _ _ _ _ _ refl c.eat-2.ensures.result c.if-eat-2.true c.eat-2.ensures.new (was _ _ _ refl)))
+
+pub returns-then-eat-3 : goal.returns-then-eat-3
+returns-then-eat-3 c = gives Place _ _ (left _ _ _ _ _ _ _ _ refl c.eat.ensures.result c.if-eat.false c.eat.ensures.new (left _ _ _ _ _ _ _ _ refl c.eat-2.ensures.result c.if-eat-2.false c.eat-2.ensures.new (took _ _ _ _ _ _ _ _ refl c.eat-3.ensures.result c.if-eat-3.true c.eat-3.ensures.new (was _ _ _ refl))))
+
+pub returns-then-eat-4 : goal.returns-then-eat-4
+returns-then-eat-4 c = gives Place _ _ (left _ _ _ _ _ _ _ _ refl c.eat.ensures.result c.if-eat.false c.eat.ensures.new (left _ _ _ _ _ _ _ _ refl c.eat-2.ensures.result c.if-eat-2.false c.eat-2.ensures.new (left _ _ _ _ _ _ _ _ refl c.eat-3.ensures.result c.if-eat-3.false c.eat-3.ensures.new (took _ _ _ _ _ _ _ _ refl c.eat-4.ensures.result c.if-eat-4.true c.eat-4.ensures.new (was _ _ _ refl)))))
+
+pub returns : goal.returns
+returns c = so_read _ _ _ _ (gives Place _ _ (left _ _ _ _ _ _ _ _ refl c.eat.ensures.result c.if-eat.false c.eat.ensures.new (left _ _ _ _ _ _ _ _ refl c.eat-2.ensures.result c.if-eat-2.false c.eat-2.ensures.new (left _ _ _ _ _ _ _ _ refl c.eat-3.ensures.result c.if-eat-3.false c.eat-3.ensures.new (left _ _ _ _ _ _ _ _ refl c.eat-4.ensures.result c.if-eat-4.false c.eat-4.ensures.new (was _ _ _ refl)))))) c.counted_place.ensures

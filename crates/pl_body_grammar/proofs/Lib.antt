@@ -1,0 +1,5 @@
+pub mod Pairs
+pub mod Fits
+pub mod Step
+pub mod Told
+pub mod Theorem

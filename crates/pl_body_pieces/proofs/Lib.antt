@@ -1,7 +1,0 @@
-pub mod Pairs
-pub mod Fits
-pub mod Step
-pub mod Told
-pub mod Theorem
-pub mod Turned
-pub mod Called

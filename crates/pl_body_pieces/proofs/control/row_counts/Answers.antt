@@ -1,8 +1,0 @@
-use Rattle.std.proofs.Common.{rules}
-use Rattle.pl_body_pieces.specs.FirstFollow.{reads_part}
-use Rattle.pl_body_pieces.specs.Grammar.{RowCounts, RowCount}
-use Rattle.pl_body_pieces.proofs.Step.{reads_rule}
-use Rattle.pl_body_pieces.proofs.control.row_counts.Goals as goal
-
-pub returns : goal.returns
-returns c = reads_rule RowCounts _ _ _ (c.until.ensures _ (c.list-targets.ensures (reads_part RowCount) (record { reads = λ old new r p. search rules })))

@@ -1,4 +1,0 @@
-use Rattle.pl_body_pieces.proofs.values.expression_until.Goals as goal
-
-pub returns : goal.returns
-returns c = c.until.ensures _ c.read_expression-value.ensures
