@@ -14,8 +14,9 @@ use Rattle.pl_undo.specs.Database.{Database}
 use Rattle.pl_world.specs.Opening.{opens}
 use Rattle.pl_world.specs.Trace.{Event, Said, is_failed, text as text_of}
 use Rattle.pl_session.specs.Starts.{IsStarted, StartPair}
-use Rattle.pl_session.specs.Traces.{AreFront, IsTrace}
+use Rattle.pl_session.specs.Traces.{AreFront, IsTrace, LeadsTo}
 use Rattle.pl_world.specs.Sessions.{Session, new_session}
+use Rattle.pl_world.specs.declared.session.Mode.TheVariants as mode
 use Rattle.pl_session.specs.Short.{IsShort, StaysShort}
 use Rattle.pl_session.specs.Spare.{KeepsArea}
 use Rattle.pl_session.specs.State.{IsReady, database_in, session_in}
@@ -239,7 +240,7 @@ cause_of Refused words a b d left before after text line s ends asks stored whol
 
 -- what the script's end says is done, where the run ends with 0 or 3
 pub done_by : (e : Ending) (b d : View) (text : List ℕ) (steps : ℕ) (stops : Bool) (s : Session) (events : List Event) → ScriptEnd e b d text steps stops s → b.told
-    → (e ≡ Whole) ⊎ ((e ≡ AtError) ⊎ (e ≡ Refused)) → IsTrace text steps stops s events → Done b d events s.world.database
+    → (e ≡ Whole) ⊎ ((e ≡ AtError) ⊎ (e ≡ Refused)) → IsTrace text steps stops s events → Done b d events s.world.last
 done_by Whole b d text steps stops s events ends told is traced = (ends events traced).0 told
 done_by AtError b d text steps stops s events ends told is traced = (ends events traced).0 told
 done_by Disk b d text steps stops s events ends told is traced = absurd (⊎_elim (λ one. cc) (λ more. ⊎_elim (λ two. cc) (λ three. cc) more) is)
@@ -252,10 +253,16 @@ done_by Refused b d text steps stops s events ends told is traced = absurd ends
 
 -- ---- a store that is kept short
 
-pub short_image : {H : Type 0} (v : View) (state : SessionState) (old new : H) → IsReady v state → v.told → StaysShort state.keeper old new → (i : Image) → v.may_leave i → IsShort i ⊎ (new ≡ old)
-short_image v state old new ready told stays i left =
+-- where the script of the line leads from a session that was begun
+pub leads_over : (text script : List ℕ) (line over : Asked) (s t u : Session) → text ≡ script → line ≡ over → s ≡ t → LeadsTo text line.steps line.stops_on_error s u → LeadsTo script over.steps over.stops_on_error t u
+leads_over text script line over s t u is_text one same leads =
+    subst (λ (x : List ℕ). LeadsTo x over.steps over.stops_on_error t u) is_text
+    (subst (λ (l : Asked). LeadsTo text l.steps l.stops_on_error t u) one (subst (λ (x : Session). LeadsTo text line.steps line.stops_on_error x u) same leads))
+
+pub short_image : {H : Type 0} (v : View) (state : SessionState) (old new : H) → IsReady v state → v.told → (session_in state).mode ≡ mode.Idle → StaysShort (session_in state).mode state.keeper old new → (i : Image) → v.may_leave i → IsShort i ⊎ (new ≡ old)
+short_image v state old new ready told idle stays i left =
     let s = ready.store told in
-    ⊎_elim (λ short. inl (s.list, state.keeper, subst (λ (c : Image). Has s.list state.keeper c) (sym (s.store.settled i left)) s.store.has, short)) (λ same. inr same) stays
+    ⊎_elim (λ short. inl (s.list, state.keeper, subst (λ (c : Image). Has s.list state.keeper c) (sym (s.store.settled i left)) s.store.has, short idle)) (λ same. inr same) stays
 
 -- endings at which no script was run, and those at which one was run to its end
 pub not_run : (e : Ending) → (e ≡ Whole) ⊎ (e ≡ AtError) → (e ≡ Refused) ⊎ ((e ≡ Say) ⊎ (e ≡ Memory)) → ⊥

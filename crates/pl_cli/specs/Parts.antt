@@ -23,15 +23,15 @@ abbrev pub ScriptEnd : Ending → (old new : View) → (script : List ℕ) → (
     → (stops : Bool) → Session → Type 0
 ScriptEnd Whole old new script steps stops s =
     (events : List Event) → IsTrace script steps stops s events
-    → (old.told → Done old new events s.world.database) × ((stops && is_failed events) ≡ false)
+    → (old.told → Done old new events s.world.last) × ((stops && is_failed events) ≡ false)
 ScriptEnd AtError old new script steps stops s =
     (events : List Event) → IsTrace script steps stops s events
-    → (old.told → Done old new events s.world.database) × ((stops && is_failed events) ≡ true)
+    → (old.told → Done old new events s.world.last) × ((stops && is_failed events) ≡ true)
 ScriptEnd Disk old new script steps stops s =
     Rises old.disk_faults new.disk_faults × PrintsWhole old new script steps stops s
 ScriptEnd Say old new script steps stops s = Rises old.say_faults new.say_faults
 ScriptEnd Memory old new script steps stops s = (events : List Event)
-    × AreFront script steps stops s events × (old.told → Done old new events s.world.database)
+    × AreFront script steps stops s events × (old.told → Done old new events s.world.last)
 ScriptEnd Usage old new script steps stops s = ⊥
 ScriptEnd Source old new script steps stops s = ⊥
 ScriptEnd Damaged old new script steps stops s = ⊥

@@ -7,8 +7,9 @@ use Rattle.pl_undo.specs.Database.{Database}
 use Rattle.pl_world.specs.Opening.{opens}
 use Rattle.pl_world.specs.Trace.{Event, Said, is_failed}
 use Rattle.pl_session.specs.Endings.{Done}
-use Rattle.pl_session.specs.Traces.{AreFront, IsTrace}
-use Rattle.pl_world.specs.Sessions.{new_session}
+use Rattle.pl_session.specs.Traces.{AreFront, IsTrace, LeadsTo}
+use Rattle.pl_world.specs.Sessions.{Session, new_session}
+use Rattle.pl_world.specs.declared.session.Mode.TheVariants as mode
 use Rattle.pl_cli.specs.Line.{Asked, Word, asked}
 use Rattle.pl_cli.specs.Printed.{refusal_line}
 use Rattle.pl_cli.specs.Script.{IsRefusedAt, IsScript, script_text}
@@ -32,6 +33,12 @@ pub record Over (words : List Word) (view : View) (left : Option (List ℕ))
   pub script : List ℕ
   pub reads : left ≡ Some script
   pub due : IsDue script line.steps line.stops_on_error db events
+
+-- behind its script the session is in no transaction block
+abbrev pub EndsIdle : {words : List Word} {left : Option (List ℕ)} {db : Database}
+    {events : List Event} {old : View} → Over words old left db events → Type 0
+EndsIdle {db = db} over = (s : Session) → LeadsTo (script_text over.script) over.line.steps
+    over.line.stops_on_error (new_session db) s → s.mode ≡ mode.Idle
 
 -- ---- why it ends so
 

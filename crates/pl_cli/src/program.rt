@@ -12,13 +12,15 @@ ghost use Rattle.pl_session.specs.Short.{IsShort};
 ghost use Rattle.pl_session.specs.Spare.{KeepsArea};
 ghost use Rattle.pl_session.specs.Starts.{HasStartCause, IsStarted, OpensSame, StartPair};
 ghost use Rattle.pl_session.specs.State.{IsReady, database_in, session_in};
+ghost use Rattle.pl_session.specs.Traces.{LeadsTo};
 ghost use Rattle.pl_world.specs.Sessions.{new_session};
+ghost use Rattle.pl_world.specs.declared.session.Mode.TheVariants as mode;
 ghost use Rattle.pl_cli.specs.Covers.{CoveredRun};
 ghost use Rattle.pl_cli.specs.Endings.{status_of};
 ghost use Rattle.pl_cli.specs.Line.{asked};
 ghost use Rattle.pl_cli.specs.Parts.{SaysLast, ScriptEnd};
 ghost use Rattle.pl_cli.specs.Printed.{damage_line, refusal_line, usage_line};
-ghost use Rattle.pl_cli.specs.Runs.{AttachesScript, AttachesStore, HasCause, IsBetween, IsLine, OnlySays, Over};
+ghost use Rattle.pl_cli.specs.Runs.{AttachesScript, AttachesStore, EndsIdle, HasCause, IsBetween, IsLine, OnlySays, Over};
 ghost use Rattle.pl_cli.specs.Script.{script_text};
 ghost use Rattle.pl_cli.specs.declared.ending.Ending.TheVariants as end;
 
@@ -134,7 +136,10 @@ fn run_commands<H: Host>(
         (λ events. RunsAlong (H.view host.old) (H.view host.new) events (database_in state.old)) }
     ensures ended { ScriptEnd result (H.view host.old) (H.view host.new) script.now steps stops
         (session_in state.old) }
-    ensures short { (result ≡ end.Whole) ⊎ (result ≡ end.AtError) → (H.view host.old).told
+    ensures session { (result ≡ end.Whole) ⊎ (result ≡ end.AtError)
+        → LeadsTo script.now steps stops (session_in state.old) (session_in state.new) }
+    ensures short { (result ≡ end.Whole) ⊎ (result ≡ end.AtError)
+        → (session_in state.new).mode ≡ mode.Idle → (H.view host.old).told
         → (image : Image) → (H.view host.new).may_leave image
         → IsShort image ⊎ (host.new ≡ host.old) }
 {
@@ -184,9 +189,12 @@ pub fn run<H: Host, S: Source>(
     ensures read { (result.ending ≡ end.Whole) ⊎ (result.ending ≡ end.AtError)
         → (script : List ℕ) → S.left source.old ≡ Some script → S.left source.new ≡ Some [] }
 
-    // 0, 3: no checkpoint is due; or no frame was written, and the batches are those from before.
+    // 0, 3: unless the script ends in a transaction block, no checkpoint is due; or no frame was
+    // written, and the batches are those from before.
     ensures short { (result.ending ≡ end.Whole) ⊎ (result.ending ≡ end.AtError)
-        → (H.view host.old).told → (image : Image) → (H.view host.new).may_leave image
+        → (db : Database) (events : List Event)
+        → (over : Over (map string_bytes words.now) (H.view host.old) (S.left source.old) db events)
+        → EndsIdle over → (image : Image) → (H.view host.new).may_leave image
         → IsShort image ⊎ (batches image ≡ batches (H.view host.old).seen) }
 
     // 2: the usage line is printed. Wrong words leave the store as it is, however the run ends.

@@ -2,3 +2,5 @@ pub mod Ends
 pub mod Lines
 pub mod Shown
 pub mod Replied
+-- What commands are read as, for the crates that do them.
+pub use Rattle.pl_reading.specs.Computed

@@ -6,7 +6,7 @@ use Rattle.pl_base.specs.declared.fail.Fail.{Fail}
 use Rattle.pl_base.specs.declared.types.Ty.TheVariants.{Text as TextType}
 use Rattle.pl_base.specs.declared.value.Value.TheVariants.{Text}
 use Rattle.pl_engine.specs.Engines.{Quiet, kept, world}
-use Rattle.pl_engine.specs.Handling.{kept_at, with_mark, with_marks}
+use Rattle.pl_engine.specs.Handling.{kept_at, returned_to, with_mark, with_marks}
 use Rattle.pl_engine.specs.declared.engine.Engine.{Engine}
 use Rattle.pl_names.specs.Names.{Name}
 use Rattle.pl_print.specs.Messages.{message_text}
@@ -52,9 +52,19 @@ module _ (e : Engine) (k : Stored) where
       let depth : length k.marks ≡ n = ap (λ (ms : List Database). length ms) marks ∙ length-take-le n e.journal.marks (omega (arith, lt)) in
       λ i. record (world e) { database = now i; last = last i; depth = depth i }
 
+  -- it went back to a mark, which stays
+  pub returned_world : (n : ℕ) → n < length e.journal.marks → slice_get e.journal.marks n ≡ Some k.now → k.last ≡ e.journal.last → k.marks ≡ take (n + 1) e.journal.marks → world (record e { journal = k }) ≡ returned_to n e
+  returned_world n lt now last marks =
+      let depth : length k.marks ≡ n + 1 = ap (λ (ms : List Database). length ms) marks ∙ length-take-le (n + 1) e.journal.marks (omega (arith, lt)) in
+      let there : k.now ≡ (kept_at n e).database = sym (get_or_from_slice_get e.journal.marks n k.now e.journal.now now) in
+      λ i. record (world e) { database = there i; last = last i; depth = depth i }
+
   -- marks are these
   pub marks_kept : (ms : List Database) → k.marks ≡ ms → kept (record e { journal = k }) ≡ record (kept e) { marks = ms }
   marks_kept ms marks = ap (λ (ms : List Database). record (kept e) { marks = ms }) marks
+
+  pub returned_kept : (n : ℕ) → k.marks ≡ take (n + 1) e.journal.marks → kept (record e { journal = k }) ≡ with_marks (n + 1) (kept e)
+  returned_kept n marks = marks_kept (take (n + 1) e.journal.marks) marks
 
   -- what was done is committed, where no mark was live
   pub committed_world : length e.journal.marks ≡ 0 → k.now ≡ e.journal.now → k.last ≡ e.journal.now → k.marks ≡ [] → world (record e { journal = k }) ≡ record (world e) { last = (world e).database }

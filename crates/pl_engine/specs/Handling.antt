@@ -1,5 +1,5 @@
 -- The marks that protected blocks go back to: PostgreSQL manual, "PL/pgSQL", "Trapping Errors".
-use Rattle.std.specs.Prelude.{ℕ, [], ◌∷◌, ◌++◌, get_or, take}
+use Rattle.std.specs.Prelude.{ℕ, ◌+◌, [], ◌∷◌, ◌++◌, get_or, take}
 use Rattle.pl_engine.specs.Engines.{Kept, kept, world}
 use Rattle.pl_engine.specs.declared.engine.Engine.{Engine}
 use Rattle.pl_undo.specs.Database.{Database}
@@ -19,3 +19,7 @@ kept_at n e = record (world e) {
   database = get_or (kept e).marks n (world e).database;
   depth = n;
 }
+
+-- the same, where that mark stays
+abbrev pub returned_to : ℕ → Engine → World
+returned_to n e = record (kept_at n e) { depth = n + 1 }

@@ -9,3 +9,5 @@ pub mod Runs
 pub mod Recorded
 pub mod Holding
 pub mod RecordedLaws
+-- What an engine holds, for the crates above it.
+pub use Rattle.pl_undo.specs.Database

@@ -1,6 +1,6 @@
 //! What statements work on.
 
-ghost use Rattle.std.specs.Prelude.{◌≡◌, []};
+ghost use Rattle.std.specs.Prelude.{◌≡◌, [], false, true};
 ghost use Rattle.pl_engine.specs.Engines.{Took, kept, world};
 ghost use Rattle.pl_world.specs.Sessions.{new_world, with_steps};
 
@@ -80,6 +80,22 @@ impl Engine {
         }
         self.steps -= 1;
         true
+    }
+
+    /// A transaction block of the session begins.
+    pub fn begin_block(&mut self)
+        ensures world { world self.new ≡ record (world self.old) { in_block = true } }
+        ensures keeps { kept self.new ≡ record (kept self.old) { in_block = true } }
+    {
+        self.in_block = true;
+    }
+
+    /// The transaction block of the session ends.
+    pub fn end_block(&mut self)
+        ensures world { world self.new ≡ record (world self.old) { in_block = false } }
+        ensures keeps { kept self.new ≡ record (kept self.old) { in_block = false } }
+    {
+        self.in_block = false;
     }
 
     /// Goes back to the last commit. No block is protected then, and no savepoint stands.

@@ -1,11 +1,11 @@
 //! Blocks whose statements are protected, and their handlers: PostgreSQL manual, "PL/pgSQL",
 //! "Trapping Errors".
 
-ghost use Rattle.std.specs.Prelude.{◌≡◌, ◌<◌, codes, false, IfOk, OnErr, OnOk};
+ghost use Rattle.std.specs.Prelude.{◌≡◌, ◌<◌, ◌+◌, codes, false, IfOk, OnErr, OnOk};
 ghost use Rattle.pl_base.specs.declared.types.Ty.TheVariants.{Text as TextType};
 ghost use Rattle.pl_base.specs.declared.value.Value.TheVariants.{Text};
 ghost use Rattle.pl_engine.specs.Engines.{Quiet, kept, world};
-ghost use Rattle.pl_engine.specs.Handling.{kept_at, with_mark, with_marks};
+ghost use Rattle.pl_engine.specs.Handling.{kept_at, returned_to, with_mark, with_marks};
 ghost use Rattle.pl_world.specs.Blocks.{deeper, handled_end, handling, with_handled};
 ghost use Rattle.pl_world.specs.Blocks.{without_handled};
 ghost use Rattle.pl_world.specs.Variables.{declared, opened};
@@ -67,6 +67,16 @@ impl Engine {
     {
         self.journal.roll_back(&mark);
         self.journal.release(mark);
+    }
+
+    /// The database is again what it was at the mark, which stays. Later ones go. This wants no
+    /// memory.
+    pub fn return_to(&mut self, mark: &Mark)
+        requires live { mark.now.at < (world self.old).depth }
+        ensures is { world self.new ≡ returned_to mark.now.at self.old }
+        ensures keeps { kept self.new ≡ with_marks (mark.now.at + 1) (kept self.old) }
+    {
+        self.journal.roll_back(mark);
     }
 
     // The error is the newest that the newest call handles.

@@ -29,6 +29,7 @@ pub use call::Call;
 pub use engine::Engine;
 pub use held::Held;
 pub use messages::message_text;
+pub use pl_undo::Mark;
 pub use port::{Port, PortFail};
 pub use recorder::Recorder;
 pub use runner::{Runner, Task, all, ask};

@@ -10,6 +10,8 @@ const SYNTAX: &str = "ERROR:  42601: syntax_error\n";
 
 const LEFT_OUT: &str = "ERROR:  0A000: feature_not_supported\n";
 
+const LEFT_OUT_IN_BLOCK: &str = "BEGIN\nCREATE TABLE\nERROR:  0A000: feature_not_supported\n";
+
 const DEEP: &str = "ERROR:  54001: statement_too_complex\n";
 
 const TOO_LONG: &str = "ERROR:  42622: name_too_long\n";
@@ -25,7 +27,7 @@ const MADE: &str = "CREATE TABLE\nINSERT 0 1\n";
 const NAME_OF_64: &str = "SELECT aaaaaaaaaaaaaaaaaaaaaaaaaaaaaaaaaaaaaaaaaaaaaaaaaaaaaaaaaaaaaaaa;";
 
 /// Scripts that end with 0, and what they print.
-const PIECES: [(&str, &str); 29] = [
+const PIECES: [(&str, &str); 27] = [
     // The first bad lexeme comes before all else.
     (NAME_OF_64, TOO_LONG),
     ("SELECT \"\";", SYNTAX),
@@ -41,8 +43,6 @@ const PIECES: [(&str, &str); 29] = [
     ("SELECT 1 2", SYNTAX),
     ("CREATE TABLE table (c integer);;", SYNTAX),
     // Commands that don't run.
-    ("BEGIN", LEFT_OUT),
-    ("SAVEPOINT s", LEFT_OUT),
     ("CREATE TABLE n (c integer REFERENCES m)", LEFT_OUT),
     ("DROP TRIGGER r ON n", LEFT_OUT),
     // The body of a DO is none.
@@ -111,7 +111,11 @@ fn depth_is_judged_before_the_rest(rt: HostRuntime) {
 /// Scripts, their status where they stop at an error, and what is printed.
 const STOPS: [(&str, u8, &str); 3] = [
     ("DO $a$ BEGIN", 3, SYNTAX),
-    ("BEGIN; CREATE TABLE n (c integer);", 3, LEFT_OUT),
+    (
+        "BEGIN; CREATE TABLE n (c integer); LOCK n; COMMIT;",
+        3,
+        LEFT_OUT_IN_BLOCK,
+    ),
     (
         "CREATE TABLE n (c integer); INSERT INTO n VALUES (1); ;",
         0,

@@ -1,5 +1,5 @@
 -- How a store is opened.
-use Rattle.std.proofs.Common.{◌≡◌, ◌<◌, ◌≤◌, ◌-◌, ◌^◌, ◌⊎◌, inl, inr, ⊎_elim, ℕ, List, [], Option, Result, Ok, Err, None, Some, IsErrAnd, arith, refl, sym, ◌∙◌, ap, subst}
+use Rattle.std.proofs.Common.{◌≡◌, ◌<◌, ◌≤◌, ◌-◌, ◌^◌, ◌⊎◌, inl, inr, ⊎_elim, ℕ, List, [], length, Option, Result, Ok, Err, None, Some, IsErrAnd, arith, refl, sym, ◌∙◌, ap, subst}
 use Rattle.std.specs.Prelude.{IfErr}
 use Rattle.std.proofs.Math.Nat.{eq-or-lt_of_le}
 use Rattle.pl_base.specs.Image.{Image}
@@ -18,8 +18,8 @@ use Rattle.pl_keeper.specs.declared.head.Head.{Head}
 use Rattle.pl_undo.specs.Database.{Database}
 use Rattle.pl_journal.specs.Operation.{empty}
 use Rattle.pl_world.specs.Opening.{apply_batches, in_area, opened_by, opens}
-use Rattle.pl_command.specs.Ends.{IsIdle}
-use Rattle.pl_engine.specs.Engines.{world}
+use Rattle.pl_engine.specs.Engines.{kept, world}
+use Rattle.pl_engine.specs.declared.engine.Engine.{Engine}
 use Rattle.pl_port.proofs.Opens.{opens_by}
 use Rattle.pl_port.specs.Stores.{Stores}
 use Rattle.pl_session.specs.Halts.{start_fail_of}
@@ -31,6 +31,8 @@ use Rattle.pl_session.specs.declared.halt.StartFail.{StartFail}
 use Rattle.pl_session.specs.declared.halt.StartFail.TheVariants.{Disk, Damaged, Memory}
 use Rattle.pl_session.specs.declared.state.SessionState.{SessionState}
 use Rattle.pl_session.proofs.Opens.{opens_alike, ready_by}
+use Rattle.pl_transactions.specs.State.{Stands, is_block, paired}
+use Rattle.pl_transactions.specs.declared.transaction.Transaction.{Transaction}
 use Rattle.pl_world.specs.Sessions.{new_session, new_world, session}
 use Rattle.pl_world.specs.World.{World}
 use Rattle.pl_world.specs.declared.session.Mode.TheVariants as mode
@@ -138,24 +140,32 @@ keeps_spare a b told writes same used = by_counting (counting a.seen) refl
 pub keeps_spare_on : (area : Area) (a m d : View) → IsLawful a → IsLawful m → m.told → KeepsArea area a m → Looks m d → KeepsArea area a d
 keeps_spare_on area a m d lawful lawful' told first looks = area_on area a m d lawful lawful' first (area_kept area m d (λ p. p ≡ m.printed) (looks.images told) (looks.time told))
 
+-- a new session is in no block
+pub new_stands : (t : Transaction) (e : Engine) (now : Database) → world e ≡ new_world now → t.mode ≡ mode.Idle → t.names.items ≡ [] → Stands t e
+new_stands t e now new is_idle names = record {
+  marks = ap (λ (w : World). w.depth) new ∙ ap (λ (ns : List (List ℕ)). length ns) (sym names);
+  in_block = ap (λ (w : World). w.in_block) new ∙ ap is_block (sym is_idle);
+  nameless = λ idle. names;
+  settled = λ idle. ap (λ (w : World). w.last) new ∙ sym (ap (λ (w : World). w.database) new);
+}
+
 -- a new session over the batches that were read
-pub started : (a m d : View) (reader : Head) (state : SessionState) (now : Database) → a.is_attached → Continues a m → Looks m d → (a.told → Recovered a m reader) → (m.told → Stores d state.keeper now) → world state.engine ≡ new_world now → state.failed ≡ None → IsStarted a d state
-started a m d reader state now attached on looks recovered stores new is_open = record {
-  ready = ready_by d state is_open
-      (subst (λ (w : World). IsIdle w) (sym new) (record { depth = refl; in_block = refl }))
-      (ap (λ (w : World). w.last) new ∙ sym same)
+pub started : (a m d : View) (reader : Head) (state : SessionState) (now : Database) → a.is_attached → Continues a m → Looks m d → (a.told → Recovered a m reader) → (m.told → Stores d state.keeper now) → world state.engine ≡ new_world now
+    → state.transaction.mode ≡ mode.Idle → state.transaction.names.items ≡ [] → state.failed ≡ None → IsStarted a d state
+started a m d reader state now attached on looks recovered stores new is_idle names is_open = record {
+  ready = ready_by d state is_open (new_stands state.transaction state.engine now new is_idle names)
       (record {
         attached = looks.continues.is_attached (on.is_attached attached);
         store = λ told. subst (λ (e : Database). Stores d state.keeper e) (sym same) (stores (looks.continues.told_before told));
       });
-  begins = ap (λ (w : World). session w mode.Idle []) new ∙ ap (λ (e : Database). new_session e) (sym same);
+  begins = (λ i. session (new i) (is_idle i) (paired (names i) (kept state.engine).marks)) ∙ ap (λ (e : Database). new_session e) (sym same);
   opened = λ told. opens_by a.seen state.keeper.area (stores (on.told told)).list (database_in state) (found told) (subst (λ (e : Database). apply_batches (stores (on.told told)).list empty ≡ Ok e) (sym same) (stores (on.told told)).leads);
   same = λ told. ap batches (looks.images (on.told told)).seen ∙ (recovered told).same;
   synced = λ told. let it = (recovered told).synced in (it.0, it.1, (looks.images (on.told told)).synced ∙ it.2);
 }
   where
     same : database_in state ≡ now
-    same = ap (λ (w : World). w.database) new
+    same = ap (λ (w : World). w.last) new
 
     found : (told : a.told) → batches a.seen ≡ Ok (record { area = state.keeper.area; list = (stores (on.told told)).list })
     found told = sym (recovered told).same ∙ sym (ap batches (looks.images (on.told told)).seen) ∙ (stores (on.told told)).store.has.batches

@@ -4,8 +4,6 @@ use Rattle.std.specs.Prelude.{IfErr, IfOk, OnOk, is_some}
 use Rattle.std.proofs.lemmas.List.{append-nil}
 use Rattle.pl_base.specs.declared.fail.Fail.{Fail}
 use Rattle.pl_base.specs.declared.state.State.{State}
-use Rattle.pl_command.specs.Ends.{as_ran}
-use Rattle.pl_command.specs.Lines.{lines_by, lines_of}
 use Rattle.pl_disk.specs.Disk.{View, Keeps, Says}
 use Rattle.pl_disk.specs.Lent.{from_say, run_weaker}
 use Rattle.pl_disk.specs.declared.device.Failed.{Failed as Fault}
@@ -18,24 +16,30 @@ use Rattle.pl_world.specs.Covered.{AlongFrom}
 use Rattle.pl_world.specs.Trace.{Event, is_failed, last_commit, text}
 use Rattle.pl_port.proofs.Opens.{stores_open}
 use Rattle.pl_port.specs.PortLaws.{along_more, along_on, takes_none}
-use Rattle.pl_port.specs.Ports.{Fits, Takes}
+use Rattle.pl_port.specs.Ports.{Fits}
 use Rattle.pl_port.specs.Stores.{AllOpen, RunsAlong}
 use Rattle.pl_reading.specs.declared.reading.Reading.{Reading}
-use Rattle.pl_reading.specs.declared.reading.Reading.TheVariants.{Nothing, Spelled}
+use Rattle.pl_reading.specs.declared.reading.Reading.TheVariants.{Nothing, Refused, Spelled}
 use Rattle.pl_session.proofs.Begins.{rises_since}
 use Rattle.pl_session.proofs.Opens.{fits_still, ready_by, ready_fits}
-use Rattle.pl_session.proofs.Went.{Rests, command_events, failed_is, replies_last, replies_text, told_is}
+use Rattle.pl_session.proofs.Went.{command_events, failed_is, replies_last, replies_text}
 use Rattle.pl_session.specs.Endings.{Done}
 use Rattle.pl_session.specs.State.{database_in, session_in, IsReady}
-use Rattle.pl_session.specs.Steps.{DoneBefore, SayCause, StepCause, StepEnd, ran, replies}
-use Rattle.pl_session.specs.Traces.{after, events_by, events_in, is_control, session_by, told_before, waiting}
+use Rattle.pl_session.specs.Steps.{DoneBefore, SayCause, StepCause, StepEnd, replies}
+use Rattle.pl_session.specs.Traces.{after, events_by, events_in, session_by}
 use Rattle.pl_session.specs.declared.state.SessionState.{SessionState}
+use Rattle.pl_transactions.specs.Answer.{Answer}
+use Rattle.pl_transactions.specs.Before.{told}
+use Rattle.pl_transactions.specs.Ends.{as_ran}
+use Rattle.pl_transactions.specs.Goes.{Quietly}
+use Rattle.pl_transactions.specs.Lines.{lines_by, lines_of}
+use Rattle.pl_transactions.specs.declared.transaction.Transaction.{Transaction}
 use Rattle.pl_tree.specs.declared.command.Command.{Command}
 use Rattle.pl_undo.specs.Database.{Database}
 use Rattle.pl_world.specs.Errors.{failure}
 use Rattle.pl_world.specs.Laws.{end_of, events}
 use Rattle.pl_world.specs.Scripts.{events_of, outward, piece_went, reply_event, session_of}
-use Rattle.pl_world.specs.Sessions.{Went, alone, failed as failing, refused, top, went}
+use Rattle.pl_world.specs.Sessions.{Went, does_command, refused, top, went}
 use Rattle.pl_world.specs.World.{Raised}
 use Rattle.pl_world.specs.declared.session.Reply.{Reply}
 
@@ -61,7 +65,7 @@ nothing_left v state steps reading is ready = subst (λ (r : Reading). StepEnd v
 -- ---- a piece that is answered
 
 module _ (a b d : View) (before state : SessionState) (steps : ℕ) (reading : Reading) (w : Went) (answer : Reply) (ready : IsReady a before)
-    (goes : piece_went do_bodies steps (waiting reading) (session_in before) ≡ Some w) (done : DoneBefore w answer before.engine state.engine a b before.keeper state.keeper) where
+    (goes : piece_went do_bodies steps reading (session_in before) ≡ Some w) (done : DoneBefore w answer state.transaction before.engine state.engine a b before.keeper state.keeper) where
   abbrev db : Database
   db = database_in before
 
@@ -74,11 +78,8 @@ module _ (a b d : View) (before state : SessionState) (steps : ℕ) (reading : R
   session_is : session_in state ≡ after steps reading (session_in before)
   session_is = sym (ap (λ (o : Option Went). session_by o (session_in before)) goes ∙ ap session_of done.gives)
 
-  takes : Takes es db a b before.keeper state.keeper
-  takes = subst (λ (e : Database). Takes es e a b before.keeper state.keeper) ready.settled done.takes
-
   fits : Fits b state.keeper (last_commit es db)
-  fits = takes.store (ready_fits a before ready)
+  fits = done.takes.store (ready_fits a before ready)
 
   all_open : AllOpen b (last_commit es db)
   all_open told c left = stores_open b state.keeper (last_commit es db) (fits.store told) c left
@@ -88,19 +89,14 @@ module _ (a b d : View) (before state : SessionState) (steps : ℕ) (reading : R
     said = says (last_commit es db) all_open
 
     pub answered_moments : RunsAlong a d (events_in steps reading (session_in before)) db
-    answered_moments = subst (λ (xs : List Event). RunsAlong a d xs db) (sym events_are) (along_on a b d es (replies answer) db takes.printed takes.moments said)
+    answered_moments = subst (λ (xs : List Event). RunsAlong a d xs db) (sym events_are) (along_on a b d es (replies answer) db done.takes.printed done.takes.moments said)
 
-    database_now : Rests (world state.engine) → database_in state ≡ last_commit es db
-    database_now rests = sym rests.0 ∙ done.last ∙ ap (λ (e : Database). last_commit es e) ready.settled
-
-    answered : (failed : Bool) → state.failed ≡ None → Rests (world state.engine) → (b.told → Keeps b d) → (b.told → d.printed ≡ b.printed ++ lines_of answer) → failed ≡ is_failed (replies answer)
-        → StepEnd a d before state steps reading (Ok failed)
-    answered failed is_open rests keeps printed is = (
+    answered : (failed : Bool) → state.failed ≡ None → (b.told → Keeps b d) → (b.told → d.printed ≡ b.printed ++ lines_of answer) → failed ≡ is_failed (replies answer) → StepEnd a d before state steps reading (Ok failed)
+    answered failed is_open keeps printed is = (
       record {
-        ready = ready_by d state is_open rests.1 rests.0
-            (fits_still b d state.keeper (database_in state) said.continues keeps (subst (λ (e : Database). Fits b state.keeper e) (sym (database_now rests)) fits));
-        database = database_now rests ∙ sym (replies_last answer (last_commit es db)) ∙ sym (last_commit-append es (replies answer) db) ∙ ap (λ (xs : List Event). last_commit xs db) (sym events_are);
-        printed = λ told. printed (takes.moments.continues.told told) ∙ ap (λ (l : List ℕ). l ++ lines_of answer) (takes.printed told) ∙ append_assoc a.printed (text es) (lines_of answer)
+        ready = ready_by d state is_open done.stands (fits_still b d state.keeper (database_in state) said.continues keeps (subst (λ (e : Database). Fits b state.keeper e) (sym done.last) fits));
+        database = done.last ∙ sym (replies_last answer (last_commit es db)) ∙ sym (last_commit-append es (replies answer) db) ∙ ap (λ (xs : List Event). last_commit xs db) (sym events_are);
+        printed = λ told. printed (done.takes.moments.continues.told told) ∙ ap (λ (l : List ℕ). l ++ lines_of answer) (done.takes.printed told) ∙ append_assoc a.printed (text es) (lines_of answer)
             ∙ ap (λ (l : List ℕ). a.printed ++ l) (ap (λ (l : List ℕ). text es ++ l) (sym (replies_text answer)) ∙ sym (text-append es (replies answer)) ∙ ap text (sym events_are));
       },
       session_is,
@@ -109,45 +105,43 @@ module _ (a b d : View) (before state : SessionState) (steps : ℕ) (reading : R
 
     unsaid : (why : Stop) → SayCause b d why → StepEnd a d before state steps reading (Err why)
     unsaid Disk cause = absurd cause
-    unsaid Say cause = rises_since a.say_faults b.say_faults d.say_faults takes.moments.continues.say_faults said.continues.say_faults cause
+    unsaid Say cause = rises_since a.say_faults b.say_faults d.say_faults done.takes.moments.continues.say_faults said.continues.say_faults cause
     unsaid Memory cause = absurd cause
 
     -- its reply is printed, or isn't
-    pub answered_end : (r : Result Bool Stop) → state.failed ≡ None → Rests (world state.engine) → (b.told → Keeps b d) → (b.told → OnOk r (d.printed ≡ b.printed ++ lines_of answer))
+    pub answered_end : (r : Result Bool Stop) → state.failed ≡ None → (b.told → Keeps b d) → (b.told → OnOk r (d.printed ≡ b.printed ++ lines_of answer))
         → IfOk r (λ failed. failed ≡ is_failed (replies answer)) → IfErr r (SayCause b d) → StepEnd a d before state steps reading r
-    answered_end (Ok failed) is_open rests keeps printed is cause = answered failed is_open rests keeps printed is
-    answered_end (Err why) is_open rests keeps printed is cause = unsaid why cause
+    answered_end (Ok failed) is_open keeps printed is cause = answered failed is_open keeps printed is
+    answered_end (Err why) is_open keeps printed is cause = unsaid why cause
 
 -- ---- a piece that isn't answered
 
 -- for want of memory it isn't refused
-pub unrefused : (v : View) (state : SessionState) (steps : ℕ) (reading : Reading) (r : Result Bool Stop) → IsErrAnd r (λ x. x ≡ Memory) → IsReady v state → StepEnd v v state state steps reading r
-unrefused v state steps reading (Ok failed) is ready = absurd is
-unrefused v state steps reading (Err why) is ready =
-    subst (λ (x : Stop). StepCause v v (told_before steps reading (session_in state)) (database_in state) x) (sym is) (idle v state (told_before steps reading (session_in state)) ready)
+pub unrefused : (v : View) (before state : SessionState) (code : State) (steps : ℕ) (stop : Stop) (r : Result Bool Stop) → IsErrAnd r (λ x. x ≡ stop) → stop ≡ Memory → IsReady v before → StepEnd v v before state steps (Refused code) r
+unrefused v before state code steps stop (Ok failed) is memory ready = absurd is
+unrefused v before state code steps stop (Err why) is memory ready = subst (λ (x : Stop). StepCause v v [] (database_in before) x) (sym (is ∙ memory)) (idle v before [] ready)
 
 -- a refusal does nothing
-pub refusal : (v : View) (state : SessionState) (code : State) (answer : Reply) → answer ≡ failing (failure code top (world state.engine)) → DoneBefore (refused code (session_in state)) answer state.engine state.engine v v state.keeper state.keeper
-refusal v state code answer is = let f = failure code top (world state.engine) in record {
+pub refusal : (v : View) (before : SessionState) (u : Transaction) (code : State) (answer : Answer) → Quietly (refused code (session_in before)) answer u before.engine before.engine
+    → DoneBefore (refused code (session_in before)) answer.reply u before.engine before.engine v v before.keeper before.keeper
+refusal v before u code answer q = let f = failure code top (world before.engine) in record {
   events = Raised f ∷ [];
-  gives = ap (λ (x : Reply). went (session_in state) x (Raised f ∷ [])) (sym is);
-  takes = takes_none (world state.engine).last v state.keeper;
+  gives = λ i. went (q.session i) (q.quiet.1 i) (Raised f ∷ []);
+  takes = takes_none (world before.engine).last v before.keeper;
   last = refl;
+  stands = q.stands;
 }
 
-module _ (a b : View) (before : SessionState) (steps : ℕ) (c : Command) (alone_is : is_control c ≡ false) (ready : IsReady a before) where
-  pub unanswered_moments : RunsAlong a b (outward (events (as_ran (alone (ran steps c (world before.engine)))))) (world before.engine).last → RunsAlong a b (events_in steps (Spelled c) (session_in before)) (database_in before)
+module _ (a b : View) (before : SessionState) (steps : ℕ) (c : Command) where
+  pub unanswered_moments : RunsAlong a b (outward (events (as_ran (does_command do_bodies steps c (session_in before))))) (database_in before) → RunsAlong a b (events_in steps (Spelled c) (session_in before)) (database_in before)
   unanswered_moments run =
-      let all = as_ran (alone (ran steps c (world before.engine))) in
-      subst (λ (es : List Event). RunsAlong a b es (database_in before)) (sym (command_events c steps (world before.engine) alone_is))
-      (along_more a b (outward (events all)) (replies (end_of all)) (database_in before) (subst (λ (e : Database). RunsAlong a b (outward (events all)) e) ready.settled run))
+      let all = as_ran (does_command do_bodies steps c (session_in before)) in
+      subst (λ (es : List Event). RunsAlong a b es (database_in before)) (sym (command_events c steps (session_in before)))
+      (along_more a b (outward (events all)) (replies (end_of all)) (database_in before) run)
 
-  pub unanswered : (state : SessionState) (why : Stop) (r : Result Bool Stop) → IsErrAnd r (λ x. x ≡ why) → StepCause a b (outward (events (ran steps c (world before.engine)))) (world before.engine).last why → StepEnd a b before state steps (Spelled c) r
+  pub unanswered : (state : SessionState) (why : Stop) (r : Result Bool Stop) → IsErrAnd r (λ x. x ≡ why) → StepCause a b (outward (told do_bodies steps c (session_in before))) (database_in before) why → StepEnd a b before state steps (Spelled c) r
   unanswered state why (Ok failed) is cause = absurd is
-  unanswered state why (Err x) is cause =
-      let told = outward (events (ran steps c (world before.engine))) in
-      subst (λ (es : List Event). StepCause a b es (database_in before) x) (sym (told_is c steps (world before.engine) alone_is))
-      (subst (λ (e : Database). StepCause a b told e x) ready.settled (subst (λ (y : Stop). StepCause a b told (world before.engine).last y) (sym is) cause))
+  unanswered state why (Err x) is cause = subst (λ (y : Stop). StepCause a b (outward (told do_bodies steps c (session_in before))) (database_in before) y) (sym is) cause
 
 -- ---- a reply is printed
 

@@ -1,5 +1,6 @@
 -- A store that is kept short.
-use Rattle.std.proofs.Common.{◌≡◌, ◌<◌, ◌≤◌, ◌-◌, ◌^◌, ◌&&◌, inl, inr, ⊎_elim, ℕ, ◌+◌, ◌*◌, List, [], ◌∷◌, ◌++◌, cond, nat_lt, Bool, true, false, None, Some, Result, Ok, Err, IsErrAnd, refl, sym, ◌∙◌, ap, subst, arith}
+use Rattle.std.proofs.Common.{◌≡◌, ◌<◌, ◌≤◌, ◌-◌, ◌^◌, ◌&&◌, inl, inr, ⊎_elim, ℕ, ◌+◌, ◌*◌, List, [], ◌∷◌, ◌++◌, cond, nat_lt, Bool, true, false, Some, Result, Ok, Err, IsErrAnd, refl, sym, ◌∙◌, ap, subst, arith}
+use Rattle.std.specs.Prelude.{OnOk}
 use Rattle.std.proofs.lemmas.Bool.Decides.{nat_tests}
 use Rattle.std.proofs.lemmas.List.{append-nil}
 use Rattle.pl_base.specs.Image.{Image, other}
@@ -13,7 +14,6 @@ use Rattle.pl_world.specs.Covered.{AlongFrom}
 use Rattle.pl_undo.specs.Database.{Database}
 use Rattle.pl_world.specs.Opening.{opens}
 use Rattle.pl_world.specs.Trace.{Event, is_failed, last_commit, text}
-use Rattle.pl_command.specs.Ends.{IsIdle}
 use Rattle.pl_engine.specs.Engines.{world}
 use Rattle.pl_engine.specs.declared.engine.Engine.{Engine}
 use Rattle.pl_engine.specs.declared.stop.Stop.{Stop}
@@ -23,11 +23,14 @@ use Rattle.pl_port.specs.PortLaws.{along_on}
 use Rattle.pl_port.specs.Stores.{Stores}
 use Rattle.pl_reading.specs.declared.reading.Reading.{Reading}
 use Rattle.pl_session.specs.Endings.{Done, GoesOn, RunsAlong}
-use Rattle.pl_session.specs.State.{database_in, session_in}
+use Rattle.pl_session.specs.State.{IsReady, database_in, session_in}
 use Rattle.pl_session.specs.Steps.{KeepCause, OpensTo, PieceEnd, StepEnd}
 use Rattle.pl_session.specs.Traces.{after, events_in, told_before}
 use Rattle.pl_session.specs.declared.state.SessionState.{SessionState}
-use Rattle.pl_world.specs.Sessions.{session}
+use Rattle.pl_transactions.specs.State.{Stands, is_idle}
+use Rattle.pl_transactions.specs.declared.transaction.Transaction.{Transaction}
+use Rattle.pl_world.specs.Sessions.{Session}
+use Rattle.pl_world.specs.declared.session.Mode.{Mode}
 use Rattle.pl_world.specs.declared.session.Mode.TheVariants as mode
 use Rattle.pl_session.proofs.Begins.{rises_since}
 
@@ -77,6 +80,51 @@ has_next head is = by_test (nat_lt head.generation (2 ^ 64 - 1)) refl is
     by_test true h is = below h
     by_test false h is = absurd (cc)
 
+-- ---- whether a session is in a block
+
+pub is_so : (m : Mode) → is_idle m ≡ true → m ≡ mode.Idle
+is_so mode.Idle is = refl
+is_so mode.Block is = absurd (cc)
+is_so mode.Failed is = absurd (cc)
+
+pub not_so : {A : Type 0} (m : Mode) → is_idle m ≡ false → m ≡ mode.Idle → A
+not_so m is idle = let no : is_idle mode.Idle ≡ false = ap is_idle (sym idle) ∙ is in absurd (cc)
+
+-- the store of a ready session, where all is committed
+pub stored_now : (v : View) (state : SessionState) (now : Database) → IsReady v state → is_idle state.transaction.mode ≡ true → now ≡ (world state.engine).database → v.told → Stores v state.keeper now
+stored_now v state now ready idle is told =
+    subst (λ (e : Database). Stores v state.keeper e) (ready.stands.settled (is_so state.transaction.mode idle) ∙ sym is) (ready.store told)
+
+-- it is ready with another keeper
+pub rewritten_ready : (a d : View) (before state : SessionState) (now : Database) → IsReady a before → is_idle before.transaction.mode ≡ true → now ≡ (world before.engine).database → Writes a d (OpensTo now) → (a.told → Stores d state.keeper now)
+    → state.failed ≡ before.failed → state.transaction ≡ before.transaction → state.engine ≡ before.engine → IsReady d state
+rewritten_ready a d before state now ready idle is writes store same_failed same_transaction same_engine = record {
+  is_open = same_failed ∙ ready.is_open;
+  attached = writes.moments.continues.is_attached ready.attached;
+  stands = subst (λ (t : Transaction). Stands t state.engine) (sym same_transaction) (subst (λ (e : Engine). Stands before.transaction e) (sym same_engine) ready.stands);
+  opens_to = λ told c left. stores_open d state.keeper (database_in state) (kept told) c left;
+  store = kept;
+}
+  where
+    last : now ≡ database_in state
+    last = is ∙ sym (ready.stands.settled (is_so before.transaction.mode idle)) ∙ sym (ap (λ (e : Engine). (world e).last) same_engine)
+
+    kept : d.told → Stores d state.keeper (database_in state)
+    kept told = subst (λ (e : Database). Stores d state.keeper e) last (store (writes.moments.continues.told_before told))
+
+pub shortened_ready : {T : Type 0} (a d : View) (before state : SessionState) (now : Database) (r : Result T Stop) → IsReady a before → is_idle before.transaction.mode ≡ true → now ≡ (world before.engine).database → Writes a d (OpensTo now)
+    → (a.told → OnOk r (Stores d state.keeper now)) → state.failed ≡ before.failed → state.transaction ≡ before.transaction → state.engine ≡ before.engine → OnOk r (IsReady d state)
+shortened_ready a d before state now (Ok x) ready idle is writes store same_failed same_transaction same_engine = rewritten_ready a d before state now ready idle is writes store same_failed same_transaction same_engine
+shortened_ready a d before state now (Err e) ready idle is writes store same_failed same_transaction same_engine = tt
+
+pub shortened_due : {T : Type 0} (A : Type 0) (due : Bool) (r : Result T Stop) → OnOk r (due ≡ false) → OnOk r (A → due ≡ false)
+shortened_due A due (Ok x) is = λ idle. is
+shortened_due A due (Err e) is = tt
+
+-- what is written opens to the database of the last commit
+pub writes_last : (a d : View) (state : SessionState) (now : Database) → IsReady a state → is_idle state.transaction.mode ≡ true → now ≡ (world state.engine).database → Writes a d (OpensTo now) → Writes a d (OpensTo (database_in state))
+writes_last a d state now ready idle is writes = subst (λ (e : Database). Writes a d (OpensTo e)) (is ∙ sym (ready.stands.settled (is_so state.transaction.mode idle))) writes
+
 -- ---- behind a command
 
 as_ok : (a b : Database) → a ≡ b → (let r : Result Database Damage = Ok a in r) ≡ Ok b
@@ -117,30 +165,16 @@ module _ (a m d : View) (before mid : SessionState) (steps : ℕ) (reading : Rea
   kept_stop lawful lawful' state why (Err x) is cause =
       inr (keep_since a m d run.continues.disk_faults writes.moments.continues.disk_faults x (subst (λ (y : Stop). KeepCause m d y) (sym is) cause), kept_all lawful lawful')
 
-  pub kept_done : (state : SessionState) (failed : Bool) → state.failed ≡ None → state.engine ≡ mid.engine → (m.told → Stores d state.keeper (database_in mid))
-      → session_in mid ≡ after steps reading (session_in before) → failed ≡ is_failed (events_in steps reading (session_in before)) → PieceEnd a d before state steps reading (Ok failed)
-  kept_done state failed is_open same store leads is = (
+  pub kept_done : (state : SessionState) (failed : Bool) → IsReady d state → session_in state ≡ session_in mid → session_in mid ≡ after steps reading (session_in before) → failed ≡ is_failed (events_in steps reading (session_in before)) → PieceEnd a d before state steps reading (Ok failed)
+  kept_done state failed ready same leads is = (
     record {
-      ready = record {
-        is_open = is_open;
-        attached = writes.moments.continues.is_attached done.ready.attached;
-        settled = ap (λ (e : Engine). (world e).last) same ∙ done.ready.settled ∙ sym now;
-        idle = subst (λ (e : Engine). IsIdle (world e)) (sym same) done.ready.idle;
-        opens_to = λ told c left. stores_open d state.keeper (database_in state) (kept told) c left;
-        store = kept;
-      };
-      database = now ∙ done.database;
+      ready = ready;
+      database = ap (λ (s : Session). s.world.last) same ∙ done.database;
       printed = kept_printed;
     },
-    ap (λ (e : Engine). session (world e) mode.Idle []) same ∙ leads,
+    same ∙ leads,
     is,
   )
-    where
-      now : database_in state ≡ database_in mid
-      now = ap (λ (e : Engine). (world e).database) same
-
-      kept : d.told → Stores d state.keeper (database_in state)
-      kept told = subst (λ (e : Database). Stores d state.keeper e) (sym now) (store (writes.moments.continues.told_before told))
 
 -- a piece stopped as its step did
 pub step_stop : (a m : View) (before state : SessionState) (steps : ℕ) (reading : Reading) (why : Stop) (r : Result Bool Stop) → IsErrAnd r (λ x. x ≡ why) → StepEnd a m before state steps reading (Err why)

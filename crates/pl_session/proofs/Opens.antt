@@ -2,9 +2,7 @@
 use Rattle.std.proofs.Common.{◌≡◌, ◌++◌, ◌∷◌, ℕ, List, [], Option, Some, None, Result, Ok, Err, ap, ◌∙◌}
 use Rattle.pl_base.specs.Image.{Image}
 use Rattle.pl_base.specs.declared.operation.Op.{Op}
-use Rattle.pl_command.specs.Ends.{IsIdle}
 use Rattle.pl_disk.specs.Disk.{View, Continues, Keeps}
-use Rattle.pl_engine.specs.Engines.{world}
 use Rattle.pl_keeper.specs.Batches.{Damage, Log, Stored, batches}
 use Rattle.pl_keeper.specs.declared.head.Head.{Head}
 use Rattle.pl_undo.specs.Database.{Database}
@@ -14,6 +12,7 @@ use Rattle.pl_port.proofs.Opens.{after, apply_batches-append, stores_open, store
 use Rattle.pl_port.specs.Ports.{Fits}
 use Rattle.pl_session.specs.State.{database_in, IsReady}
 use Rattle.pl_session.specs.declared.state.SessionState.{SessionState}
+use Rattle.pl_transactions.specs.State.{Stands}
 
 -- a batch that doesn't apply is the first also where others come behind it
 pub apply_batches-stopped : (xs ys : List Stored) (db : Database) (at : ℕ) → apply_batches xs db ≡ Err at → apply_batches (xs ++ ys) db ≡ Err at
@@ -34,12 +33,11 @@ opens_alike c d same = ap (λ (r : Result Log Damage). opened_by r) same
 -- ---- sessions
 
 -- a session over a store of its database
-pub ready_by : (v : View) (state : SessionState) → state.failed ≡ None → IsIdle (world state.engine) → (world state.engine).last ≡ database_in state → Fits v state.keeper (database_in state) → IsReady v state
-ready_by v state is_open idle settled fits = record {
+pub ready_by : (v : View) (state : SessionState) → state.failed ≡ None → Stands state.transaction state.engine → Fits v state.keeper (database_in state) → IsReady v state
+ready_by v state is_open stands fits = record {
   is_open = is_open;
   attached = fits.attached;
-  settled = settled;
-  idle = idle;
+  stands = stands;
   opens_to = λ told c left. stores_open v state.keeper (database_in state) (fits.store told) c left;
   store = fits.store;
 }

@@ -34,10 +34,10 @@ pub record Progress (a now : View) (steps : ℕ) (stops : Bool) (script : Text) 
   pub all : script_readings script ≡ first ++ rest
   pub left : Left script at rest
   pub goes_on : (stops && is_failed (trace steps stops first s)) ≡ false
-  pub moments : RunsAlong a now (trace steps stops first s) s.world.database
+  pub moments : RunsAlong a now (trace steps stops first s) s.world.last
   pub printed : a.told → now.printed ≡ a.printed ++ text (trace steps stops first s)
   pub reached : current ≡ behind steps first s
-  pub database : current.world.database ≡ last_commit (trace steps stops first s) s.world.database
+  pub database : current.world.last ≡ last_commit (trace steps stops first s) s.world.last
 
 pub no_piece : (a : View) (steps : ℕ) (stops : Bool) (script : Text) (s : Session) → Progress a a steps stops script 0 s s
 unfolding script_events
@@ -62,7 +62,7 @@ as_ok a b is = ap (λ (d : Database). let r : Result Database Damage = Ok d in r
 
 module _ (a b : View) (steps : ℕ) (stops : Bool) (script : Text) (at : ℕ) (s current : Session) (was : Progress a b steps stops script at s current) where
   abbrev db : Database
-  db = s.world.database
+  db = s.world.last
 
   abbrev whole : List Event
   whole = trace steps stops (script_readings script) s
@@ -78,7 +78,7 @@ module _ (a b : View) (steps : ℕ) (stops : Bool) (script : Text) (at : ℕ) (s
   told_then told = was.moments.continues.told told
 
   -- the session stopped before a piece was read
-  pub moments_so_far : RunsAlong a b (trace steps stops (script_readings script) s) s.world.database
+  pub moments_so_far : RunsAlong a b (trace steps stops (script_readings script) s) s.world.last
   moments_so_far = subst (λ (t : List Event). RunsAlong a b t db) (sym split) (along_more a b done (trace steps stops was.rest current) db was.moments)
 
   -- ---- more events behind them
@@ -87,13 +87,13 @@ module _ (a b : View) (steps : ℕ) (stops : Bool) (script : Text) (at : ℕ) (s
   printed_on d xs said told = said (told_then told) ∙ ap (λ (l : List ℕ). l ++ text xs) (was.printed told) ∙ append_assoc a.printed (text done) (text xs)
       ∙ ap (λ (l : List ℕ). a.printed ++ l) (sym (text-append done xs))
 
-  last_on : (xs : List Event) → last_commit xs current.world.database ≡ last_commit (done ++ xs) db
+  last_on : (xs : List Event) → last_commit xs current.world.last ≡ last_commit (done ++ xs) db
   last_on xs = ap (λ (e : Database). last_commit xs e) was.database ∙ sym (last_commit-append done xs db)
 
-  done_on : (d : View) (xs : List Event) → (b.told → Done b d xs current.world.database) → a.told → Done a d (done ++ xs) db
+  done_on : (d : View) (xs : List Event) → (b.told → Done b d xs current.world.last) → a.told → Done a d (done ++ xs) db
   done_on d xs all told = record {
     printed = printed_on d xs (λ t. (all t).printed) told;
-    opens_to = λ c left. (all (told_then told)).opens_to c left ∙ as_ok (last_commit xs current.world.database) (last_commit (done ++ xs) db) (last_on xs);
+    opens_to = λ c left. (all (told_then told)).opens_to c left ∙ as_ok (last_commit xs current.world.last) (last_commit (done ++ xs) db) (last_on xs);
   }
 
   -- some of what the next piece tells before its end
@@ -114,7 +114,7 @@ module _ (a b : View) (steps : ℕ) (stops : Bool) (script : Text) (at : ℕ) (s
   so_many state ready is = (
     done ++ [],
     front [] (told_next steps was.rest current, refl),
-    done_on b [] (λ told. subst (λ (e : Database). Done b b [] e) (ap (λ (t : Session). t.world.database) is) (none_done b state ready told)),
+    done_on b [] (λ told. subst (λ (e : Database). Done b b [] e) (ap (λ (t : Session). t.world.last) is) (none_done b state ready told)),
   )
 
   -- ---- nothing is left
@@ -126,8 +126,8 @@ module _ (a b : View) (steps : ℕ) (stops : Bool) (script : Text) (at : ℕ) (s
     pub done_whole : (before state : SessionState) → session_in before ≡ s → session_in state ≡ current → IsReady b state → GoesOn a b before state (trace steps stops (script_readings script) s)
     done_whole before state is_before is_after ready = record {
       ready = ready;
-      database = ap (λ (t : Session). t.world.database) is_after ∙ was.database ∙ ap (λ (t : List Event). last_commit t db) (sym all_done)
-          ∙ ap (λ (t : Session). last_commit whole t.world.database) (sym is_before);
+      database = ap (λ (t : Session). t.world.last) is_after ∙ was.database ∙ ap (λ (t : List Event). last_commit t db) (sym all_done)
+          ∙ ap (λ (t : Session). last_commit whole t.world.last) (sym is_before);
       printed = λ told. was.printed told ∙ ap (λ (t : List Event). a.printed ++ text t) (sym all_done);
     }
 
@@ -144,7 +144,7 @@ module _ (a b : View) (steps : ℕ) (stops : Bool) (script : Text) (at : ℕ) (s
 
   -- ---- a piece more
 
-  module _ (d : View) (reading : Reading) (others : List Reading) (next : was.rest ≡ reading ∷ others) (run : RunsAlong b d (events_in steps reading current) current.world.database) where
+  module _ (d : View) (reading : Reading) (others : List Reading) (next : was.rest ≡ reading ∷ others) (run : RunsAlong b d (events_in steps reading current) current.world.last) where
     abbrev now : List Event
     now = events_in steps reading current
 
@@ -178,7 +178,7 @@ module _ (a b : View) (steps : ℕ) (stops : Bool) (script : Text) (at : ℕ) (s
     told_now part is = front part (is.0, ap (λ (rs : List Reading). told_next steps rs current) next ∙ is.1)
 
     -- why a piece stopped is why the script did
-    step_stops : (why : Stop) → StepCause b d (told_before steps reading current) current.world.database why → StopsBy a d script steps stops s why
+    step_stops : (why : Stop) → StepCause b d (told_before steps reading current) current.world.last why → StopsBy a d script steps stops s why
     step_stops Disk cause = (
       rises_since a.disk_faults b.disk_faults d.disk_faults was.moments.continues.disk_faults run.continues.disk_faults cause.0,
       (done ++ cause.1.0, told_now cause.1.0 cause.1.1, printed_on d cause.1.0 cause.1.2),
@@ -186,7 +186,7 @@ module _ (a b : View) (steps : ℕ) (stops : Bool) (script : Text) (at : ℕ) (s
     step_stops Say cause = rises_since a.say_faults b.say_faults d.say_faults was.moments.continues.say_faults run.continues.say_faults cause
     step_stops Memory cause = (done ++ cause.0, told_now cause.0 cause.1, done_on d cause.0 cause.2)
 
-    keep_stops : (why : Stop) → KeepCause b d why → (b.told → Done b d now current.world.database) → StopsBy a d script steps stops s why
+    keep_stops : (why : Stop) → KeepCause b d why → (b.told → Done b d now current.world.last) → StopsBy a d script steps stops s why
     keep_stops Disk cause all = (
       rises_since a.disk_faults b.disk_faults d.disk_faults was.moments.continues.disk_faults run.continues.disk_faults cause,
       (done ++ now, front_more, printed_on d now (λ told. (all told).printed)),
@@ -194,12 +194,12 @@ module _ (a b : View) (steps : ℕ) (stops : Bool) (script : Text) (at : ℕ) (s
     keep_stops Say cause all = absurd cause
     keep_stops Memory cause all = (done ++ now, front_more, done_on d now all)
 
-    pub stops_by : (why : Stop) → PieceCause b d (told_before steps reading current) (events_in steps reading current) current.world.database why → StopsBy a d script steps stops s why
+    pub stops_by : (why : Stop) → PieceCause b d (told_before steps reading current) (events_in steps reading current) current.world.last why → StopsBy a d script steps stops s why
     stops_by why cause = ⊎_elim (λ stopped. step_stops why stopped) (λ kept. keep_stops why kept.0 kept.1) cause
 
     -- one piece more
     pub one_piece : (place : ℕ) (next_one : Session) → Left script place others → (stops && is_failed (events_in steps reading current)) ≡ false → (b.told → d.printed ≡ b.printed ++ text (events_in steps reading current)) → next_one ≡ after steps reading current
-        → next_one.world.database ≡ last_commit (events_in steps reading current) current.world.database → Progress a d steps stops script place s next_one
+        → next_one.world.last ≡ last_commit (events_in steps reading current) current.world.last → Progress a d steps stops script place s next_one
     one_piece place next_one left goes_on said is database = record {
       first = first;
       rest = others;
@@ -213,10 +213,10 @@ module _ (a b : View) (steps : ℕ) (stops : Bool) (script : Text) (at : ℕ) (s
     }
 
     -- a piece at which the session stopped
-    pub stopped : RunsAlong a d (trace steps stops (script_readings script) s) s.world.database
+    pub stopped : RunsAlong a d (trace steps stops (script_readings script) s) s.world.last
     stopped = by_test (stops && is_failed now) refl
       where
-        by_test : (e : Bool) → (stops && is_failed now) ≡ e → RunsAlong a d (trace steps stops (script_readings script) s) s.world.database
+        by_test : (e : Bool) → (stops && is_failed now) ≡ e → RunsAlong a d (trace steps stops (script_readings script) s) s.world.last
         by_test true error = subst (λ (t : List Event). RunsAlong a d t db) (sym (split ∙ ap (λ (rs : List Reading). done ++ trace steps stops rs current) next ∙ ap (λ (t : List Event). done ++ t) (trace-last steps stops reading others current error))) runs_more
         by_test false fine =
             let tail = trace steps stops others (behind steps first s) in
@@ -229,11 +229,11 @@ module _ (a b : View) (steps : ℕ) (stops : Bool) (script : Text) (at : ℕ) (s
       ends : trace steps stops (script_readings script) s ≡ done ++ now
       ends = split ∙ ap (λ (rs : List Reading). done ++ trace steps stops rs current) next ∙ ap (λ (t : List Event). done ++ t) (trace-last steps stops reading others current error)
 
-      pub done_at_error : (before state : SessionState) → session_in before ≡ s → IsReady d state → database_in state ≡ last_commit (events_in steps reading current) current.world.database → (b.told → d.printed ≡ b.printed ++ text (events_in steps reading current))
+      pub done_at_error : (before state : SessionState) → session_in before ≡ s → IsReady d state → database_in state ≡ last_commit (events_in steps reading current) current.world.last → (b.told → d.printed ≡ b.printed ++ text (events_in steps reading current))
           → GoesOn a d before state (trace steps stops (script_readings script) s)
       done_at_error before state is_before ready database said = record {
         ready = ready;
-        database = database ∙ last_on now ∙ ap (λ (t : List Event). last_commit t db) (sym ends) ∙ ap (λ (t : Session). last_commit whole t.world.database) (sym is_before);
+        database = database ∙ last_on now ∙ ap (λ (t : List Event). last_commit t db) (sym ends) ∙ ap (λ (t : Session). last_commit whole t.world.last) (sym is_before);
         printed = λ told. printed_on d now said told ∙ ap (λ (t : List Event). a.printed ++ text t) (sym ends);
       }
 

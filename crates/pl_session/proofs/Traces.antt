@@ -1,5 +1,5 @@
 -- The events of some pieces and more.
-use Rattle.std.proofs.Common.{◌≡◌, ◌∙◌, ◌&&◌, ◌||◌, ◌++◌, ℕ, Bool, true, false, cond, List, [], ◌∷◌, Option, Some, None, append_assoc, ap, map, refl, subst, sym}
+use Rattle.std.proofs.Common.{◌≡◌, ◌∙◌, ◌&&◌, ◌||◌, ◌++◌, ℕ, Bool, true, false, cond, List, [], ◌∷◌, Option, Some, None, append_assoc, ap, refl, subst, sym}
 use Rattle.std.proofs.lemmas.List.{append-nil}
 use Rattle.pl_engine.specs.Texts.{do_bodies}
 use Rattle.pl_lex.specs.Characters.{Text}
@@ -7,7 +7,7 @@ use Rattle.pl_world.proofs.Lent.{is_failed-append, readings_only}
 use Rattle.pl_world.specs.Trace.{Event, is_failed}
 use Rattle.pl_reading.specs.Computed.{script_readings}
 use Rattle.pl_reading.specs.declared.reading.Reading.{Reading}
-use Rattle.pl_session.specs.Traces.{IsTrace, after, behind, ended_behind, events_by, events_in, session_by, trace, waiting}
+use Rattle.pl_session.specs.Traces.{IsTrace, after, behind, ended_behind, events_by, events_in, session_by, trace}
 use Rattle.pl_world.specs.Scripts.{goes_on, piece_went, script}
 use Rattle.pl_world.specs.Sessions.{Session, Went}
 
@@ -20,7 +20,7 @@ goes_by (Some w) stops k s = refl
 
 trace-cons : (steps : ℕ) (stops : Bool) (r : Reading) (rs : List Reading) (s : Session) → trace steps stops (r ∷ rs) s ≡ events_in steps r s ++ cond (stops && is_failed (events_in steps r s)) [] (trace steps stops rs (after steps r s))
 unfolding script
-trace-cons steps stops r rs s = goes_by (piece_went do_bodies steps (waiting r) s) stops (λ t. script do_bodies steps stops (map waiting rs) t) s
+trace-cons steps stops r rs s = goes_by (piece_went do_bodies steps r s) stops (λ t. script do_bodies steps stops rs t) s
 
 trace-nil : (steps : ℕ) (stops : Bool) (s : Session) → trace steps stops [] s ≡ []
 unfolding script

@@ -1,104 +1,132 @@
--- How a command went that is a transaction of its own, and what of it is told before its end.
-use Rattle.std.proofs.Common.{◌≡◌, ◌∙◌, ◌⊎◌, ◌++◌, inl, inr, ⊎_elim, ℕ, Bool, true, false, List, [], ◌∷◌, drop, length, length-append, Option, Some, None, ap, arith, refl, subst, sym}
-use Rattle.std.specs.Prelude.{◌||◌, if◌then◌else◌}
+-- How a command went, and what of it is told before its end.
+use Rattle.std.proofs.Common.{◌≡◌, ◌∙◌, ◌⊎◌, ◌++◌, inl, inr, ⊎_elim, ℕ, Bool, false, List, [], ◌∷◌, drop, length, length-append, Option, Some, None, ap, arith, refl, sym}
+use Rattle.std.specs.Prelude.{◌||◌}
 use Rattle.std.proofs.lemmas.List.{append-nil}
-use Rattle.pl_base.specs.States.{FEATURE_NOT_SUPPORTED}
 use Rattle.pl_base.specs.declared.fail.Fail.{Fail}
-use Rattle.pl_base.specs.declared.state.State.{State}
-use Rattle.pl_command.specs.Ends.{IsIdle, as_ran}
-use Rattle.pl_command.specs.Lines.{lines_by, lines_of}
 use Rattle.pl_engine.proofs.Joins.{outward-append}
 use Rattle.pl_engine.specs.Texts.{do_bodies}
 use Rattle.pl_world.proofs.Lent.{is_failed-append}
 use Rattle.pl_world.specs.Trace as trace
 use Rattle.pl_world.specs.Trace.{is_failed, last_commit, text}
-use Rattle.pl_reading.specs.declared.reading.Reading.{Reading}
-use Rattle.pl_reading.specs.declared.reading.Reading.TheVariants.{Refused, Spelled}
-use Rattle.pl_session.specs.Steps.{IsPart, ran, replies}
-use Rattle.pl_session.specs.Traces.{events_by, events_in, is_control, told_before, told_in, waiting}
+use Rattle.pl_transactions.specs.Tag.{Tag}
+use Rattle.pl_reading.specs.declared.reading.Reading.TheVariants.{Spelled}
+use Rattle.pl_session.specs.Steps.{IsPart, replies}
+use Rattle.pl_session.specs.Traces.{events_in}
+use Rattle.pl_transactions.specs.Before.{told, told_of_begin, told_of_end, told_of_plain}
+use Rattle.pl_transactions.specs.Ends.{as_ran}
+use Rattle.pl_transactions.specs.Lines.{lines_by, lines_of}
 use Rattle.pl_tree.specs.declared.command.Command.{Command}
 use Rattle.pl_tree.specs.declared.command.Command.TheVariants as command
 use Rattle.pl_undo.specs.Database.{Database}
-use Rattle.pl_world.specs.Laws.{end_of, events, world_behind}
+use Rattle.pl_world.specs.Laws.{end_of, events}
 use Rattle.pl_world.specs.Running.{Bodies}
-use Rattle.pl_world.specs.Scripts.{events_of, outward, piece_went, reply_event}
-use Rattle.pl_world.specs.Sessions.{Session, Went, alone, does_command, ended_alone, plain, refused, session, went}
-use Rattle.pl_world.specs.World.{Began, Committed, Event, Raised, Ran, Said, Stepped, World, made}
+use Rattle.pl_world.specs.Scripts.{events_of, outward, reply_event}
+use Rattle.pl_world.specs.Sessions.{Save, Session, Went, alone, back_at, begins, commits, does_command, does_plain, ended_alone, ended_inside, goes_back, inside, place_of, plain, released_at, releases, rolls_back, saves, went}
+use Rattle.pl_world.specs.World.{Began, Committed, Event, Raised, Ran, Said, Stepped, made}
+use Rattle.pl_world.specs.declared.session.Mode.{Mode}
 use Rattle.pl_world.specs.declared.session.Mode.TheVariants as mode
 use Rattle.pl_world.specs.declared.session.Reply.{Reply}
 
--- ---- its end
+-- ---- what is told before the end
 
--- the session behind it is in no block
-abbrev again : Ran Reply → Went
-again (made w answer es) = went (session w mode.Idle []) answer es
+-- the events are those before the end, and then a commit, if there is one
+abbrev pub Own : Went → List Event → Type 0
+Own w es = (outward (events (as_ran w)) ≡ outward es) ⊎ ((db : Database) × (outward (events (as_ran w)) ≡ outward es ++ trace.Committed db ∷ []))
 
-alone_again : (r : Ran Reply) → alone r ≡ again (as_ran (alone r))
-alone_again (made w answer es) = by_fail answer.fail
+alone_own : (r : Ran Reply) → Own (alone r) (events r)
+alone_own (made w answer es) = by_fail answer.fail
   where
-    by_fail : (fail : Option Fail) → ended_alone fail answer es w ≡ again (as_ran (ended_alone fail answer es w))
-    by_fail (Some f) = refl
-    by_fail None = refl
+    by_fail : (fail : Option Fail) → Own (ended_alone fail answer es w) es
+    by_fail (Some f) = inl refl
+    by_fail None = inr (w.database, outward-append es (Committed w.database ∷ []))
 
-pub alone_went : (r : Ran Reply) (w : World) (answer : Reply) (es : List Event) → as_ran (alone r) ≡ made w answer es → alone r ≡ went (session w mode.Idle []) answer es
-alone_went r w answer es is = alone_again r ∙ ap again is
-
--- all is committed then, and no block is protected
-abbrev pub Rests : World → Type 0
-Rests w = (w.last ≡ w.database) × IsIdle w
-
-rested : (r : Ran Reply) → Rests (world_behind (as_ran (alone r)))
-rested (made w answer es) = by_fail answer.fail
+inside_own : (saves : List Save) (r : Ran Reply) → Own (inside saves r) (events r)
+inside_own saves (made w answer es) = by_fail answer.fail
   where
-    by_fail : (fail : Option Fail) → Rests (world_behind (as_ran (ended_alone fail answer es w)))
-    by_fail (Some f) = (refl, record { depth = refl; in_block = refl })
-    by_fail None = (refl, record { depth = refl; in_block = refl })
+    by_fail : (fail : Option Fail) → Own (ended_inside fail saves answer es w) es
+    by_fail (Some f) = inl refl
+    by_fail None = inl refl
 
-pub rests_by : (r : Ran Reply) (w : World) (answer : Reply) (es : List Event) → alone r ≡ went (session w mode.Idle []) answer es → Rests w
-rests_by r w answer es is = subst Rests (ap (λ (x : Went). world_behind (as_ran x)) is) (rested r)
+module _ (s : Session) where
+  begin_own : (t : Tag) (m : Mode) → Own (begins t m s) (told_of_begin m)
+  begin_own t mode.Idle = inl refl
+  begin_own t mode.Block = inl refl
+  begin_own t mode.Failed = inl refl
 
--- ---- pieces
+  commit_own : (m : Mode) → Own (commits m s) (told_of_end m)
+  commit_own mode.Idle = inr (s.world.database, refl)
+  commit_own mode.Block = inr (s.world.database, refl)
+  commit_own mode.Failed = inl refl
 
-plain_is : (c : Command) (b : Bodies) (n : ℕ) (w : World) → is_control c ≡ false → does_command b n c (session w mode.Idle []) ≡ alone (plain b n c (session w mode.Idle []))
-unfolding does_command
-plain_is command.Begin b n w is = absurd cc
-plain_is command.StartTransaction b n w is = absurd cc
-plain_is command.Commit b n w is = absurd cc
-plain_is command.Rollback b n w is = absurd cc
-plain_is (command.Savepoint name) b n w is = absurd cc
-plain_is (command.Release name) b n w is = absurd cc
-plain_is (command.RollbackTo name) b n w is = absurd cc
-plain_is (command.Define d source) b n w is = refl
-plain_is (command.Query q) b n w is = refl
-plain_is (command.Insert i) b n w is = refl
-plain_is (command.Update u) b n w is = refl
-plain_is (command.Delete d) b n w is = refl
-plain_is (command.Do language body) b n w is = refl
-plain_is (command.Call name arguments) b n w is = refl
+  roll_back_own : (m : Mode) → Own (rolls_back m s) (told_of_end m)
+  roll_back_own mode.Idle = inr (s.world.database, refl)
+  roll_back_own mode.Block = inl refl
+  roll_back_own mode.Failed = inl refl
 
--- a command of transaction blocks waits, and no other
-abbrev by_control : Bool → Command → Reading
-by_control b c = if b then Refused FEATURE_NOT_SUPPORTED else Spelled c
+  save_own : (name : List ℕ) (m : Mode) → Own (saves name m s) []
+  save_own name mode.Idle = inl refl
+  save_own name mode.Block = inl refl
+  save_own name mode.Failed = inl refl
 
-pub waits : (c : Command) → is_control c ≡ true → waiting (Spelled c) ≡ Refused FEATURE_NOT_SUPPORTED
-waits c is = ap (λ (b : Bool). by_control b c) is
+  released_own : (at : Option ℕ) → Own (released_at at s) []
+  released_own None = inl refl
+  released_own (Some i) = inl refl
 
-goes : (c : Command) → is_control c ≡ false → waiting (Spelled c) ≡ Spelled c
-goes c is = ap (λ (b : Bool). by_control b c) is
+  release_own : (name : List ℕ) (m : Mode) → Own (releases name m s) []
+  release_own name mode.Idle = inl refl
+  release_own name mode.Block = released_own (place_of name s.saves)
+  release_own name mode.Failed = inl refl
 
-pub went_in : (c : Command) (n : ℕ) (w : World) → is_control c ≡ false → piece_went do_bodies n (waiting (Spelled c)) (session w mode.Idle []) ≡ Some (alone (ran n c w))
-went_in c n w is =
-    ap (λ (r : Reading). piece_went do_bodies n r (session w mode.Idle [])) (goes c is)
-    ∙ ap (λ (x : Went). Some x) (plain_is c do_bodies n w is)
+  returned_own : (at : Option ℕ) → Own (back_at at s) []
+  returned_own None = inl refl
+  returned_own (Some i) = inl refl
 
-pub told_is : (c : Command) (n : ℕ) (w : World) → is_control c ≡ false → told_before n (Spelled c) (session w mode.Idle []) ≡ outward (events (ran n c w))
-told_is c n w is = ap (λ (r : Reading). told_in n r (session w mode.Idle [])) (goes c is)
+  back_own : (name : List ℕ) (m : Mode) → Own (goes_back name m s) []
+  back_own name mode.Idle = inl refl
+  back_own name mode.Block = returned_own (place_of name s.saves)
+  back_own name mode.Failed = returned_own (place_of name s.saves)
 
-pub refused_in : (r : Reading) (state : State) (n : ℕ) (s : Session) → waiting r ≡ Refused state → piece_went do_bodies n (waiting r) s ≡ Some (refused state s)
-refused_in r state n s is = ap (λ (x : Reading). piece_went do_bodies n x s) is
+  plain_own : (b : Bodies) (n : ℕ) (c : Command) (m : Mode) → Own (does_plain b n c m s) (told_of_plain b n c m s)
+  plain_own b n c mode.Idle = alone_own (plain b n c s)
+  plain_own b n c mode.Block = inside_own s.saves (plain b n c s)
+  plain_own b n c mode.Failed = inl refl
 
-pub refused_told : (r : Reading) (state : State) (n : ℕ) (s : Session) → waiting r ≡ Refused state → told_before n r s ≡ []
-refused_told r state n s is = ap (λ (x : Reading). told_in n x s) is
+pub own : (b : Bodies) (n : ℕ) (c : Command) (s : Session) → Own (does_command b n c s) (told b n c s)
+unfolding does_command told
+own b n command.Begin s = begin_own s _ s.mode
+own b n command.StartTransaction s = begin_own s _ s.mode
+own b n command.Commit s = commit_own s s.mode
+own b n command.Rollback s = roll_back_own s s.mode
+own b n (command.Savepoint name) s = save_own s name s.mode
+own b n (command.Release name) s = release_own s name s.mode
+own b n (command.RollbackTo name) s = back_own s name s.mode
+own b n (command.Define d source) s = plain_own s b n (command.Define d source) s.mode
+own b n (command.Query q) s = plain_own s b n (command.Query q) s.mode
+own b n (command.Insert i) s = plain_own s b n (command.Insert i) s.mode
+own b n (command.Update u) s = plain_own s b n (command.Update u) s.mode
+own b n (command.Delete d) s = plain_own s b n (command.Delete d) s.mode
+own b n (command.Do language body) s = plain_own s b n (command.Do language body) s.mode
+own b n (command.Call name arguments) s = plain_own s b n (command.Call name arguments) s.mode
+
+-- where one more is left of a list, what comes before is a front of all but its last
+front_of : (xs front : List trace.Event) (x e : trace.Event) (left : List trace.Event) → xs ++ x ∷ [] ≡ front ++ e ∷ left → IsPart front xs
+front_of xs [] x e left is = (xs, refl)
+front_of [] (f ∷ fs) x e left is = absurd (let long = length-append fs (e ∷ left) in let same = ap length is in omega (arith, same, long))
+front_of (y ∷ ys) (f ∷ fs) x e left is =
+    let rest = front_of ys fs x e left (ap (λ (l : List trace.Event). drop 1 l) is) in
+    let same : y ≡ f = cc in
+    (rest.0, λ i. same i ∷ rest.1 i)
+
+-- an event was tried
+pub part_of : (w : Went) (es : List Event) → Own w es → (front rest : List Event) (e : trace.Event) (left : List trace.Event) → events (as_ran w) ≡ front ++ rest → outward rest ≡ e ∷ left → IsPart (outward front) (outward es)
+part_of w es own front rest e left are next = ⊎_elim
+    (λ same. (outward rest, sym same ∙ ap outward are ∙ outward-append front rest))
+    (λ it. front_of (outward es) (outward front) (trace.Committed it.0) e left
+    (sym it.1 ∙ ap outward are ∙ outward-append front rest ∙ ap (λ (l : List trace.Event). outward front ++ l) next))
+    own
+
+pub front_told : (es front rest : List Event) → es ≡ front ++ rest → IsPart (outward front) (outward es)
+front_told es front rest are = (outward rest, ap outward are ∙ outward-append front rest)
 
 -- ---- events
 
@@ -106,8 +134,8 @@ refused_told r state n s is = ap (λ (x : Reading). told_in n x s) is
 went_split : (x : Went) → events_of x ≡ outward (events (as_ran x)) ++ replies (end_of (as_ran x))
 went_split (went s answer es) = refl
 
-pub command_events : (c : Command) (n : ℕ) (w : World) → is_control c ≡ false → events_in n (Spelled c) (session w mode.Idle []) ≡ outward (events (as_ran (alone (ran n c w)))) ++ replies (end_of (as_ran (alone (ran n c w))))
-command_events c n w is = ap events_by (went_in c n w is) ∙ went_split (alone (ran n c w))
+pub command_events : (c : Command) (n : ℕ) (s : Session) → events_in n (Spelled c) s ≡ outward (events (as_ran (does_command do_bodies n c s))) ++ replies (end_of (as_ran (does_command do_bodies n c s)))
+command_events c n s = went_split (does_command do_bodies n c s)
 
 pub replies_text : (answer : Reply) → text (replies answer) ≡ lines_of answer
 replies_text answer = by_fail answer.fail
@@ -134,33 +162,3 @@ outward_fine (Committed db ∷ es) = outward_fine es
 
 pub failed_is : (es : List Event) (answer : Reply) → is_failed (outward es ++ replies answer) ≡ is_failed (replies answer)
 failed_is es answer = is_failed-append (outward es) (replies answer) ∙ ap (λ (b : Bool). b || is_failed (replies answer)) (outward_fine es)
-
--- ---- what is told before the end
-
--- the events are those before the end, and then a commit, if there is one
-own : (r : Ran Reply) → (events (as_ran (alone r)) ≡ events r) ⊎ ((db : Database) × (events (as_ran (alone r)) ≡ events r ++ Committed db ∷ []))
-own (made w answer es) = by_fail answer.fail
-  where
-    by_fail : (fail : Option Fail) → (events (as_ran (ended_alone fail answer es w)) ≡ es) ⊎ ((db : Database) × (events (as_ran (ended_alone fail answer es w)) ≡ es ++ Committed db ∷ []))
-    by_fail (Some f) = inl refl
-    by_fail None = inr (w.database, refl)
-
--- where one more is left of a list, what comes before is a front of all but its last
-front_of : (xs front : List trace.Event) (x e : trace.Event) (left : List trace.Event) → xs ++ x ∷ [] ≡ front ++ e ∷ left → IsPart front xs
-front_of xs [] x e left is = (xs, refl)
-front_of [] (f ∷ fs) x e left is = absurd (let long = length-append fs (e ∷ left) in let same = ap length is in omega (arith, same, long))
-front_of (y ∷ ys) (f ∷ fs) x e left is =
-    let rest = front_of ys fs x e left (ap (λ (l : List trace.Event). drop 1 l) is) in
-    let same : y ≡ f = cc in
-    (rest.0, λ i. same i ∷ rest.1 i)
-
--- an event was tried
-pub part_of : (r : Ran Reply) (front rest : List Event) (e : trace.Event) (left : List trace.Event) → events (as_ran (alone r)) ≡ front ++ rest → outward rest ≡ e ∷ left → IsPart (outward front) (outward (events r))
-part_of r front rest e left are next = ⊎_elim
-    (λ same. (outward rest, ap outward (sym same ∙ are) ∙ outward-append front rest))
-    (λ it. front_of (outward (events r)) (outward front) (trace.Committed it.0) e left
-    (sym (outward-append (events r) (Committed it.0 ∷ [])) ∙ ap outward (sym it.1 ∙ are) ∙ outward-append front rest ∙ ap (λ (l : List trace.Event). outward front ++ l) next))
-    (own r)
-
-pub front_told : (r : Ran Reply) (front rest : List Event) → events r ≡ front ++ rest → IsPart (outward front) (outward (events r))
-front_told r front rest are = (outward rest, ap outward are ∙ outward-append front rest)

@@ -52,7 +52,7 @@ StopsBy old new script steps stops s Disk =
     Rises old.disk_faults new.disk_faults × PrintsWhole old new script steps stops s
 StopsBy old new script steps stops s Say = Rises old.say_faults new.say_faults
 StopsBy old new script steps stops s Memory = (events : List Event)
-    × AreFront script steps stops s events × (old.told → Done old new events s.world.database)
+    × AreFront script steps stops s events × (old.told → Done old new events s.world.last)
 
 -- Why a call did not run to its end, a line an ending: the session had stopped before, and nothing
 -- was done; or it stopped now, and is closed from then on.

@@ -1,31 +1,29 @@
 -- A session between two calls.
-use Rattle.std.specs.Prelude.{◌≡◌, [], None, Ok}
+use Rattle.std.specs.Prelude.{◌≡◌, None, Ok}
 use Rattle.pl_base.specs.Image.{Image}
-use Rattle.pl_command.specs.Ends.{IsIdle}
 use Rattle.pl_disk.specs.Disk.{View}
 use Rattle.pl_engine.specs.Engines.{world}
 use Rattle.pl_world.specs.Opening.{opens}
 use Rattle.pl_port.specs.Stores.{Stores}
 use Rattle.pl_session.specs.declared.state.SessionState.{SessionState}
+use Rattle.pl_transactions.specs.State.{Stands, session_at}
 use Rattle.pl_undo.specs.Database.{Database}
-use Rattle.pl_world.specs.Sessions.{Session, session}
-use Rattle.pl_world.specs.declared.session.Mode.TheVariants as mode
+use Rattle.pl_world.specs.Sessions.{Session}
 
--- what a session stands for: it is in no transaction block
+-- what a session stands for
 abbrev pub session_in : SessionState → Session
-session_in state = session (world state.engine) mode.Idle []
+session_in state = session_at state.transaction state.engine
 
--- the database that it holds
+-- the database of its last commit
 abbrev pub database_in : SessionState → Database
-database_in state = (world state.engine).database
+database_in state = (world state.engine).last
 
 -- What a call of a session begins with, and what it leaves after Ok: the session is open, its host
--- has a store, and every crash leaves files that open to its database (`store` is how its keeper
--- knows them), which is that of the last commit. It is in no block, and no block is protected.
+-- has a store, and every crash leaves files that open to the database of its last commit (`store` is
+-- how its keeper knows them).
 pub record IsReady (v : View) (state : SessionState) : Type 0 where
   pub is_open : state.failed ≡ None
   pub attached : v.is_attached
-  pub settled : (world state.engine).last ≡ database_in state
-  pub idle : IsIdle (world state.engine)
+  pub stands : Stands state.transaction state.engine
   pub opens_to : v.told → (c : Image) → v.may_leave c → opens c ≡ Ok (database_in state)
   pub store : v.told → Stores v state.keeper (database_in state)

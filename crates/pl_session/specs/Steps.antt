@@ -3,7 +3,6 @@ use Rattle.std.specs.Prelude.{◌≡◌, ◌⊎◌, ◌++◌, ℕ, List, [], ◌
 use Rattle.pl_base.specs.Image.{Image}
 use Rattle.pl_disk.specs.Disk.{View, Rises}
 use Rattle.pl_engine.specs.Engines.{world}
-use Rattle.pl_engine.specs.Texts.{do_bodies}
 use Rattle.pl_engine.specs.declared.engine.Engine.{Engine}
 use Rattle.pl_engine.specs.declared.stop.Stop.{Stop}
 use Rattle.pl_engine.specs.declared.stop.Stop.TheVariants.{Disk, Say, Memory}
@@ -18,13 +17,12 @@ use Rattle.pl_session.specs.Endings.{Done, GoesOn}
 use Rattle.pl_session.specs.State.{database_in, session_in}
 use Rattle.pl_session.specs.Traces.{after, events_in, told_before}
 use Rattle.pl_session.specs.declared.state.SessionState.{SessionState}
-use Rattle.pl_tree.specs.declared.command.Command.{Command}
+use Rattle.pl_transactions.specs.State.{Stands, session_at}
+use Rattle.pl_transactions.specs.declared.transaction.Transaction.{Transaction}
 use Rattle.pl_undo.specs.Database.{Database}
 use Rattle.pl_world.specs.Scripts.{outward, reply_event}
-use Rattle.pl_world.specs.Sessions.{Went, plain, session, went}
-use Rattle.pl_world.specs.World.{World, Ran}
+use Rattle.pl_world.specs.Sessions.{Went, went}
 use Rattle.pl_world.specs.World as world_events
-use Rattle.pl_world.specs.declared.session.Mode.TheVariants as mode
 use Rattle.pl_world.specs.declared.session.Reply.{Reply}
 
 -- ---- why a part stopped
@@ -55,17 +53,14 @@ KeepCause old new Memory = Unit {0}
 
 -- ---- commands
 
--- what a command does before its end, from a world on
-abbrev pub ran : (steps : ℕ) → Command → World → Ran Reply
-ran steps c w = plain do_bodies steps c (session w mode.Idle [])
-
 -- A command went so, and all of it is done but for its reply.
-pub record DoneBefore (w : Went) (answer : Reply) (old new : Engine) (a b : View) (k l : Head)
-    : Type 0 where
+pub record DoneBefore (w : Went) (answer : Reply) (behind : Transaction) (old new : Engine)
+    (a b : View) (k l : Head) : Type 0 where
   pub events : List world_events.Event
-  pub gives : w ≡ went (session (world new) mode.Idle []) answer events
+  pub gives : w ≡ went (session_at behind new) answer events
   pub takes : Takes (outward events) (world old).last a b k l
   pub last : (world new).last ≡ last_commit (outward events) (world old).last
+  pub stands : Stands behind new
 
 -- the events of a reply
 abbrev pub replies : Reply → List Event

@@ -1,36 +1,17 @@
--- What a script does in a session. BEGIN and the other commands of transaction blocks aren't done
--- yet: each is 0A000.
-use Rattle.std.specs.Prelude.{◌≡◌, ◌⊎◌, ◌&&◌, ℕ, Bool, true, false, List, [], ◌∷◌, ◌++◌, map}
+-- What a script does in a session.
+use Rattle.std.specs.Prelude.{◌≡◌, ◌⊎◌, ◌&&◌, ℕ, Bool, false, List, [], ◌∷◌, ◌++◌}
 use Rattle.std.specs.Prelude.{Option, Some, None, if◌then◌else◌}
-use Rattle.pl_base.specs.States.{FEATURE_NOT_SUPPORTED}
 use Rattle.pl_engine.specs.Texts.{do_bodies}
 use Rattle.pl_lex.specs.Characters.{Text}
 use Rattle.pl_world.specs.Meaning.{Readings}
 use Rattle.pl_world.specs.Trace.{Event, is_failed}
 use Rattle.pl_reading.specs.declared.reading.Reading.{Reading}
-use Rattle.pl_reading.specs.declared.reading.Reading.TheVariants.{Refused, Spelled}
-use Rattle.pl_tree.specs.declared.command.Command.{Command}
-use Rattle.pl_tree.specs.declared.command.Command.TheVariants as command
-use Rattle.pl_world.specs.Laws as laws
+use Rattle.pl_reading.specs.declared.reading.Reading.TheVariants.{Nothing, Refused, Spelled}
+use Rattle.pl_transactions.specs.Before.{told}
 use Rattle.pl_world.specs.Scripts.{events_of, outward, piece_went, script, session_of}
-use Rattle.pl_world.specs.Sessions.{Session, Went, plain}
+use Rattle.pl_world.specs.Sessions.{Session, Went}
 
 -- ---- pieces
-
--- a command of transaction blocks
-abbrev pub is_control : Command → Bool
-is_control command.Begin = true
-is_control command.StartTransaction = true
-is_control command.Commit = true
-is_control command.Rollback = true
-is_control (command.Savepoint name) = true
-is_control (command.Release name) = true
-is_control (command.RollbackTo name) = true
-is_control c = false
-
-abbrev pub waiting : Reading → Reading
-waiting (Spelled c) = if is_control c then Refused FEATURE_NOT_SUPPORTED else Spelled c
-waiting reading = reading
 
 abbrev pub events_by : Option Went → List Event
 events_by None = []
@@ -42,18 +23,16 @@ session_by (Some w) s = session_of w
 
 -- the events of a piece, and the session behind it
 abbrev pub events_in : (steps : ℕ) → Reading → Session → List Event
-events_in steps reading s = events_by (piece_went do_bodies steps (waiting reading) s)
+events_in steps reading s = events_by (piece_went do_bodies steps reading s)
 
 abbrev pub after : (steps : ℕ) → Reading → Session → Session
-after steps reading s = session_by (piece_went do_bodies steps (waiting reading) s) s
+after steps reading s = session_by (piece_went do_bodies steps reading s) s
 
 -- what a piece prints and commits before its end, where its own commit and its reply come
-abbrev pub told_in : (steps : ℕ) → Reading → Session → List Event
-told_in steps (Spelled c) s = outward (laws.events (plain do_bodies steps c s))
-told_in steps reading s = []
-
 abbrev pub told_before : (steps : ℕ) → Reading → Session → List Event
-told_before steps reading s = told_in steps (waiting reading) s
+told_before steps Nothing s = []
+told_before steps (Refused state) s = []
+told_before steps (Spelled c) s = outward (told do_bodies steps c s)
 
 -- the first of these pieces, if there is one
 abbrev pub told_next : (steps : ℕ) → List Reading → Session → List Event
@@ -65,7 +44,7 @@ told_next steps (reading ∷ readings) s = told_before steps reading s
 -- The events of the pieces in order, each of which may take so many steps. Where it stops on errors,
 -- the first error is the last event.
 abbrev pub trace : (steps : ℕ) → (stops : Bool) → List Reading → Session → List Event
-trace steps stops readings s = script do_bodies steps stops (map waiting readings) s
+trace steps stops readings s = script do_bodies steps stops readings s
 
 -- the session behind these pieces, none of which ends the script
 abbrev pub behind : (steps : ℕ) → List Reading → Session → Session

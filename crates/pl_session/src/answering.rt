@@ -1,8 +1,6 @@
 //! A command over a store, and its answer.
 
 ghost use Rattle.std.specs.Prelude.{◌≡◌, ◌≤◌, ◌++◌, IfOk, IfErr, OnOk};
-ghost use Rattle.pl_command.specs.Ends.{IsIdle, as_ran};
-ghost use Rattle.pl_command.specs.Lines.{lines_of};
 ghost use Rattle.pl_disk.specs.Disk.{Keeps};
 ghost use Rattle.pl_engine.specs.Answers.{Answers};
 ghost use Rattle.pl_engine.specs.Engines.{kept, world};
@@ -13,44 +11,25 @@ ghost use Rattle.pl_port.specs.Ports.{Fits};
 ghost use Rattle.pl_port.specs.Stores.{AllOpen};
 ghost use Rattle.pl_reading.specs.Computed.{CommandMeansAlike};
 ghost use Rattle.pl_session.specs.Endings.{RunsAlong};
-ghost use Rattle.pl_session.specs.Steps.{DoneBefore, SayCause, StepCause, ran, replies};
-ghost use Rattle.pl_session.specs.Traces as spec;
+ghost use Rattle.pl_session.specs.Steps.{DoneBefore, SayCause, StepCause, replies};
+ghost use Rattle.pl_transactions.specs.Before.{told};
+ghost use Rattle.pl_transactions.specs.Ends.{as_ran};
+ghost use Rattle.pl_transactions.specs.Lines.{lines_of};
+ghost use Rattle.pl_transactions.specs.State.{Stands, session_at};
 ghost use Rattle.pl_undo.specs.Database.{Database};
 ghost use Rattle.pl_world.specs.Laws.{events};
 ghost use Rattle.pl_world.specs.Scripts.{outward};
-ghost use Rattle.pl_world.specs.Sessions.{alone};
+ghost use Rattle.pl_world.specs.Sessions.{does_command};
 
 use crate::halt::Stop;
-use pl_command::{Answer, command};
 use pl_disk::Host;
 use pl_engine::{Engine, Port, Runner, Task};
 use pl_exec::{Bodies, run};
 use pl_keeper::Keeper;
 use pl_port::StorePort;
+use pl_transactions::{Answer, Transaction, command};
 use pl_tree::Command;
 use pl_world::Outcome;
-
-/// Whether it is a command of transaction blocks.
-pub fn is_control(tree: &Command) -> bool
-    ensures { result ≡ spec.is_control tree.now }
-{
-    match tree {
-        Command::Begin
-        | Command::StartTransaction
-        | Command::Commit
-        | Command::Rollback
-        | Command::Savepoint(_)
-        | Command::Release(_)
-        | Command::RollbackTo(_) => true,
-        Command::Define { .. }
-        | Command::Query(_)
-        | Command::Insert(_)
-        | Command::Update(_)
-        | Command::Delete(_)
-        | Command::Do { .. }
-        | Command::Call { .. } => false,
-    }
-}
 
 // A task of a body, over any port. It stands here since a function of another crate isn't passed on
 // by its name.
@@ -71,60 +50,65 @@ fn run_task<P: Port>(
 
 // Does a command over the port, in so many steps at the most.
 fn do_over<H: Host>(
+    transaction: &mut Transaction,
     engine: &mut Engine,
     port: &mut StorePort<'_, H>,
     steps: u64,
     tree: Command,
 ) -> Result<Answer, Stop>
-    requires idle { IsIdle (world engine.old) }
+    requires stands { Stands transaction.old engine.old }
     requires alike { CommandMeansAlike tree }
     requires fits { Fits (H.view port.old.host.now) port.old.keeper.now (world engine.old).last }
     ensures same_host { port.new.host.ghost_name ≡ port.old.host.ghost_name }
     ensures same_keeper { port.new.keeper.ghost_name ≡ port.old.keeper.ghost_name }
-    ensures done { IfOk result (λ answer. DoneBefore (alone (ran steps tree (world engine.old)))
-        answer.reply engine.old engine.new (H.view port.old.host.now) (H.view port.new.host.now)
-        port.old.keeper.now port.new.keeper.now) }
+    ensures done { IfOk result (λ answer. DoneBefore
+        (does_command do_bodies steps tree (session_at transaction.old engine.old)) answer.reply
+        transaction.new engine.old engine.new (H.view port.old.host.now)
+        (H.view port.new.host.now) port.old.keeper.now port.new.keeper.now) }
     ensures moments { RunsAlong (H.view port.old.host.now) (H.view port.new.host.now)
-        (outward (events (as_ran (alone (ran steps tree (world engine.old))))))
+        (outward (events (as_ran
+        (does_command do_bodies steps tree (session_at transaction.old engine.old)))))
         (world engine.old).last }
     ensures cause { IfErr result (StepCause (H.view port.old.host.now) (H.view port.new.host.now)
-        (outward (events (ran steps tree (world engine.old)))) (world engine.old).last) }
+        (outward (told do_bodies steps tree (session_at transaction.old engine.old)))
+        (world engine.old).last) }
     ensures lines { IfOk result (λ answer. answer.lines ≡ lines_of answer.reply) }
-    ensures keeps { OnOk result (kept engine.new ≡ kept engine.old) }
 {
-    engine.give_steps(steps);
     let runner = Runner {
         room: steps,
         run: run_task,
     };
-    command(&runner, &Bodies, engine, port, tree)
+    command(&runner, &Bodies, transaction, engine, port, tree)
 }
 
-/// Does a command over the store, in so many steps at the most, and commits what it changed. What
-/// it prints before its reply goes to the host.
+/// Does a command over the store, in so many steps at the most, and commits what it is to commit.
+/// What it prints before its reply goes to the host.
 pub fn do_command<H: Host>(
+    transaction: &mut Transaction,
     engine: &mut Engine,
     keeper: &mut Keeper,
     host: &mut H,
     steps: u64,
     tree: Command,
 ) -> Result<Answer, Stop>
-    requires idle { IsIdle (world engine.old) }
+    requires stands { Stands transaction.old engine.old }
     requires alike { CommandMeansAlike tree }
     requires fits { Fits (H.view host.old) keeper.old (world engine.old).last }
-    ensures done { IfOk result (λ answer. DoneBefore (alone (ran steps tree (world engine.old)))
-        answer.reply engine.old engine.new (H.view host.old) (H.view host.new)
+    ensures done { IfOk result (λ answer. DoneBefore
+        (does_command do_bodies steps tree (session_at transaction.old engine.old)) answer.reply
+        transaction.new engine.old engine.new (H.view host.old) (H.view host.new)
         keeper.old keeper.new) }
     ensures moments { RunsAlong (H.view host.old) (H.view host.new)
-        (outward (events (as_ran (alone (ran steps tree (world engine.old))))))
+        (outward (events (as_ran
+        (does_command do_bodies steps tree (session_at transaction.old engine.old)))))
         (world engine.old).last }
     ensures cause { IfErr result (StepCause (H.view host.old) (H.view host.new)
-        (outward (events (ran steps tree (world engine.old)))) (world engine.old).last) }
+        (outward (told do_bodies steps tree (session_at transaction.old engine.old)))
+        (world engine.old).last) }
     ensures lines { IfOk result (λ answer. answer.lines ≡ lines_of answer.reply) }
-    ensures keeps { OnOk result (kept engine.new ≡ kept engine.old) }
 {
     let mut port = StorePort::new(engine.alloc(), keeper, host);
-    do_over(engine, &mut port, steps, tree)
+    do_over(transaction, engine, &mut port, steps, tree)
 }
 
 /// Prints a reply. The answer is whether it was an error.

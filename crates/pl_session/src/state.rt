@@ -1,13 +1,12 @@
-//! A session: the engine that does its commands, and the keeper of the store that holds what they
-//! committed.
+//! A session: the engine that does its commands, where it stands between two of them, and the keeper
+//! of the store that holds what they committed.
 
 ghost use Rattle.std.specs.Prelude.{true, false, ◌≡◌, ◌&&◌, Some, Err, IfOk, IfErr, OnOk, IsErrOf};
-ghost use Rattle.pl_disk.specs.Disk.{Runs, Settled, Untouched};
+ghost use Rattle.pl_disk.specs.Disk.{Runs, Settled, Untouched, Writes};
 ghost use Rattle.pl_engine.specs.declared.stop.Stop.{Stop};
 ghost use Rattle.pl_keeper.specs.Batches.{Damage, spare_area};
 ghost use Rattle.pl_keeper.specs.Checkpoint.{is_due};
 ghost use Rattle.pl_reading.specs.Computed.{CommandMeansAlike, MeansAlike};
-ghost use Rattle.pl_reading.specs.declared.reading.Reading.{Reading as OneReading};
 ghost use Rattle.pl_reading.specs.declared.reading.Reading.TheVariants as reading;
 ghost use Rattle.pl_world.specs.Opening.{opens};
 ghost use Rattle.pl_world.specs.Trace.{is_failed};
@@ -16,22 +15,22 @@ ghost use Rattle.pl_session.specs.Short.{StaysShort};
 ghost use Rattle.pl_session.specs.Spare.{KeepsArea};
 ghost use Rattle.pl_session.specs.Starts.{StartPair, OpensSame, IsStarted, HasStartCause};
 ghost use Rattle.pl_session.specs.State.{database_in, session_in, IsReady};
-ghost use Rattle.pl_session.specs.Steps.{PieceEnd, StepEnd};
-ghost use Rattle.pl_session.specs.Traces as spec;
-ghost use Rattle.pl_session.specs.Traces.{LeadsTo, events_in, waiting};
+ghost use Rattle.pl_session.specs.Steps.{KeepCause, OpensTo, PieceEnd, StepEnd};
+ghost use Rattle.pl_session.specs.Traces.{LeadsTo, events_in};
 ghost use Rattle.pl_session.specs.declared.halt.Halt.TheVariants.{Closed};
+ghost use Rattle.pl_world.specs.declared.session.Mode.TheVariants as mode;
 
-use crate::answering::{do_command, is_control, say_reply};
+use crate::answering::{do_command, say_reply};
 use crate::halt::{Ended, Halt, Outcome, StartFail, Stop};
 use crate::keeping::keep_short;
 use crate::opening::fold;
 use crate::script::read_next;
 use pl_base::State;
-use pl_command::refuse;
 use pl_disk::Host;
 use pl_engine::Engine;
 use pl_keeper::Keeper;
 use pl_reading::Reading;
+use pl_transactions::{Transaction, refuse};
 use pl_tree::Command;
 use std::alloc::Global;
 
@@ -40,6 +39,7 @@ use std::alloc::Global;
 pub struct SessionState {
     alloc: Global,
     engine: Engine,
+    transaction: Transaction,
     keeper: Keeper,
     failed: Option<Stop>,
 }
@@ -86,6 +86,7 @@ impl SessionState {
         Ok(SessionState {
             alloc,
             engine: Engine::new(alloc, journal),
+            transaction: Transaction::new(alloc),
             keeper,
             failed: None,
         })
@@ -106,13 +107,13 @@ impl SessionState {
         steps: u64,
     ) -> Result<bool, Stop>
         requires ready { IsReady (H.view host.old) self.old }
-        ensures moments { (r : OneReading) → waiting r ≡ reading.Refused state
-            → RunsAlong (H.view host.old) (H.view host.new)
-            (events_in steps r (session_in self.old)) (database_in self.old) }
-        ensures ended { (r : OneReading) → waiting r ≡ reading.Refused state
-            → StepEnd (H.view host.old) (H.view host.new) self.old self.new steps r result }
+        ensures moments { RunsAlong (H.view host.old) (H.view host.new)
+            (events_in steps (reading.Refused state) (session_in self.old))
+            (database_in self.old) }
+        ensures ended { StepEnd (H.view host.old) (H.view host.new) self.old self.new
+            steps (reading.Refused state) result }
     {
-        let answer = refuse(&self.engine, state)?;
+        let answer = refuse(&mut self.transaction, &self.engine, state)?;
         say_reply(host, answer)
     }
 
@@ -120,13 +121,19 @@ impl SessionState {
     fn answer<H: Host>(&mut self, host: &mut H, tree: Command, steps: u64) -> Result<bool, Stop>
         requires ready { IsReady (H.view host.old) self.old }
         requires alike { CommandMeansAlike tree }
-        requires alone { spec.is_control tree ≡ false }
         ensures moments { RunsAlong (H.view host.old) (H.view host.new)
             (events_in steps (reading.Spelled tree) (session_in self.old)) (database_in self.old) }
         ensures ended { StepEnd (H.view host.old) (H.view host.new) self.old self.new
             steps (reading.Spelled tree) result }
     {
-        let answer = do_command(&mut self.engine, &mut self.keeper, host, steps, tree)?;
+        let answer = do_command(
+            &mut self.transaction,
+            &mut self.engine,
+            &mut self.keeper,
+            host,
+            steps,
+            tree,
+        )?;
         say_reply(host, answer)
     }
 
@@ -148,13 +155,26 @@ impl SessionState {
         match reading {
             Reading::Nothing => Ok(false),
             Reading::Refused(state) => self.refuse_piece(host, state, steps),
-            Reading::Spelled(tree) => {
-                if is_control(&tree) {
-                    return self.refuse_piece(host, State::FEATURE_NOT_SUPPORTED, steps);
-                }
-                self.answer(host, tree, steps)
-            }
+            Reading::Spelled(tree) => self.answer(host, tree, steps),
         }
+    }
+
+    // Writes the database anew where that is due and the session is in no block: in one the engine
+    // has changes that aren't committed.
+    fn shorten<H: Host>(&mut self, host: &mut H) -> Result<(), Stop>
+        requires ready { IsReady (H.view host.old) self.old }
+        ensures writes { Writes (H.view host.old) (H.view host.new)
+            (OpensTo (database_in self.old)) }
+        ensures ready { OnOk result (IsReady (H.view host.new) self.new) }
+        ensures session { OnOk result (session_in self.new ≡ session_in self.old) }
+        ensures short { OnOk result ((session_in self.new).mode ≡ mode.Idle
+            → is_due self.new.keeper ≡ false) }
+        ensures cause { IfErr result (KeepCause (H.view host.old) (H.view host.new)) }
+    {
+        if !self.transaction.is_idle() {
+            return Ok(());
+        }
+        keep_short(&mut self.keeper, self.alloc, host, self.engine.journal())
     }
 
     // Runs what a piece of a script is read as, and writes the database anew once its reply was
@@ -171,10 +191,11 @@ impl SessionState {
             (events_in steps reading (session_in self.old)) (database_in self.old) }
         ensures ended { PieceEnd (H.view host.old) (H.view host.new) self.old self.new
             steps reading result }
-        ensures short { OnOk result (is_due self.new.keeper ≡ false) }
+        ensures short { OnOk result ((session_in self.new).mode ≡ mode.Idle
+            → is_due self.new.keeper ≡ false) }
     {
         let failed = self.run_reading(host, reading, steps)?;
-        keep_short(&mut self.keeper, self.alloc, host, self.engine.journal())?;
+        self.shorten(host)?;
         Ok(failed)
     }
 
@@ -198,7 +219,8 @@ impl SessionState {
         ensures ready { OnOk result (IsReady (H.view host.new) self.new) }
         ensures session { OnOk result
             (LeadsTo script.now steps stops (session_in self.old) (session_in self.new)) }
-        ensures short { OnOk result (StaysShort self.new.keeper host.old host.new) }
+        ensures short { OnOk result
+            (StaysShort (session_in self.new).mode self.new.keeper host.old host.new) }
         ensures cause { IfErr result (StopsBy (H.view host.old) (H.view host.new)
             script.now steps stops (session_in self.old)) }
     {
@@ -220,7 +242,7 @@ impl SessionState {
     /// steps.
     ///
     /// After each command's reply the whole database is written anew into the other area, where
-    /// that is due, and this may fail too.
+    /// that is due and the session is in no block, and this may fail too.
     ///
     /// `Closed` comes where the session had stopped before; then nothing is done. `Stopped` comes
     /// where a call of the host failed or there was no memory; the session is closed from then on.
@@ -246,8 +268,10 @@ impl SessionState {
         ensures session { OnOk result
             (LeadsTo text.now steps true (session_in self.old) (session_in self.new)) }
 
-        // No checkpoint is due then, or nothing was done, since there was no command.
-        ensures short { OnOk result (StaysShort self.new.keeper host.old host.new) }
+        // No checkpoint is due then, unless the session is in a block; or nothing was done, since
+        // there was no command.
+        ensures short { OnOk result
+            (StaysShort (session_in self.new).mode self.new.keeper host.old host.new) }
         ensures outcome { OfTrace text.now steps true (session_in self.old)
             (λ events. IfOk result (λ outcome. outcome ≡ outcome_of (is_failed events))) }
 
@@ -265,6 +289,7 @@ impl SessionState {
 
     /// Runs the commands of a script in order, each in so many steps at the most. Where it stops on
     /// errors, the first command that gets one is the last that runs, and the answer is `AtError`.
+    /// A script may end in a transaction block, in which the next one of this session goes on.
     ///
     /// `Closed` and `Stopped` come as for `run_command`.
     pub fn run_script<H: Host>(
@@ -291,8 +316,10 @@ impl SessionState {
         ensures session { OnOk result
             (LeadsTo script.now steps stops_on_error (session_in self.old) (session_in self.new)) }
 
-        // No checkpoint is due then, or nothing was done, since there was no command.
-        ensures short { OnOk result (StaysShort self.new.keeper host.old host.new) }
+        // No checkpoint is due then, unless the session is in a block; or nothing was done, since
+        // there was no command.
+        ensures short { OnOk result
+            (StaysShort (session_in self.new).mode self.new.keeper host.old host.new) }
         ensures ended { OfTrace script.now steps stops_on_error (session_in self.old)
             (λ events. IfOk result
             (λ ended. ended ≡ ended_of (stops_on_error && is_failed events))) }

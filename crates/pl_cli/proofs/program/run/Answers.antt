@@ -24,7 +24,7 @@ use Rattle.pl_base.specs.Image.{Image}
 use Rattle.pl_cli.specs.Runs.{AttachesScript, HasCause, IsEarly, OnlySays, Over}
 use Rattle.pl_cli.specs.Script.{IsRefusedAt, script_text}
 use Rattle.pl_cli.proofs.Covering.{done_since, idle_covers, not_begun, only_started, same_database, start_covers, then_covers}
-use Rattle.pl_cli.proofs.Runs.{area_said, begun, cause_of, done_by, ended_not_memory, ended_not_say, front_since, none_printed, not_disk, not_memory, not_read, not_run, not_usage, one_asked, prints_since, prints_whole, refused_due, same_damage, says_along, says_done, says_nothing, tells_at, tells_cause, tells_early, tells_only, tells_place, trace_of, was_run}
+use Rattle.pl_cli.proofs.Runs.{area_said, begun, cause_of, done_by, ended_not_memory, ended_not_say, front_since, leads_over, none_printed, not_disk, not_memory, not_read, not_run, not_usage, one_asked, prints_since, prints_whole, refused_due, same_damage, says_along, says_done, says_nothing, tells_at, tells_cause, tells_early, tells_only, tells_place, trace_of, was_run}
 use Rattle.pl_cli.proofs.Traces.{none_yet}
 use Rattle.pl_cli.proofs.program.run.Goals as goal
 
@@ -179,29 +179,36 @@ returns-clause-spare g c is told =
     absurd (was_run c.run_commands.result _ _ _ _ _ _ c.run_commands.ensures.ended (subst (λ (e : Ending). (e ≡ Source) ⊎ (e ≡ Refused)) c.of-2.ensures.ending is))
 
 pub returns-in-Err-Damaged-clause-short : goal.returns-in-Err-Damaged-clause-short
-returns-in-Err-Damaged-clause-short g c ended told i left =
+returns-in-Err-Damaged-clause-short g c ended db events over idle i left =
     let line = damage_line c.in-Err-Damaged.area c.in-Err-Damaged.at in
     let tells = tells_at g.H.Disk.view _ c.in-Err-Damaged.area _ c.in-Err-Damaged.at c.start.new.host c.say_damage.new.host c.say_damage.result c.in-Err-Damaged.area-is c.in-Err-Damaged.at-is c.say_damage.ensures in
     absurd (not_read _ (tells_early g.H.Disk.view line (g.H.Disk.view c.args.host.now) c.start.new.host c.say_damage.new.host c.say_damage.result tells)
     (subst (λ (e : Ending). (e ≡ Whole) ⊎ (e ≡ AtError)) c.of-in-Err-Damaged.ensures.ending ended))
 
 pub returns-in-Err-Refused-clause-short : goal.returns-in-Err-Refused-clause-short
-returns-in-Err-Refused-clause-short g c ended told i left =
+returns-in-Err-Refused-clause-short g c ended db events over idle i left =
     let is = subst (λ (e : Ending). (e ≡ Whole) ⊎ (e ≡ AtError)) c.of-in-Err-Refused.ensures.ending ended in
     absurd (⊎_elim (λ says. ⊎_elim (λ refused. not_run _ is (inl refused)) (λ say. not_run _ is (inr (inl say.0))) says.known) (λ none. not_run _ is (inr (inr none.0))) c.say_refusal.ensures)
 
 pub returns-clause-short : goal.returns-clause-short
-returns-clause-short g c ended told i left =
+returns-clause-short g c ended db events over idle i left =
     let a = g.H.Disk.view c.args.host.now in
     let b = g.H.Disk.view c.start.new.host in
-    let now = c.start.ensures.moments.continues.told told in
+    let now = c.start.ensures.moments.continues.told over.told in
     let started = c.in-Ok-start.ensures.started in
+    let line = asked_in c.in-Ok.line in
+    let text = c.without_mark-text.result.now in
+    let same_db : database_in c.in-Ok-start.state ≡ db = same_database (opens a.seen) (database_in c.in-Ok-start.state) db (started.opened over.told) over.opened in
+    let read = c.in-Ok-read_script.ensures.read over.script over.reads in
+    let is_text : text ≡ script_text over.script = c.without_mark-text.ensures ∙ ap script_text (c.deref.ensures ∙ read.0) in
+    let one : line ≡ over.line = one_asked (asked (map string_bytes c.args.words.now)) line over.line c.in-Ok.ensures.line over.asks in
     let is = subst (λ (e : Ending). (e ≡ Whole) ⊎ (e ≡ AtError)) c.of-2.ensures.ending ended in
+    let leads = leads_over text (script_text over.script) line over.line (session_in c.in-Ok-start.state) (new_session db) (session_in c.run_commands.new.state) is_text one (begun a b c.in-Ok-start.state db started same_db) (c.run_commands.ensures.session is) in
     ⊎_elim (λ short. inl short)
     (λ same.
     let was : b.may_leave i = subst (λ h. (g.H.Disk.view h).may_leave i) same left in
-    inr (ap batches ((started.ready.store now).store.settled i was) ∙ started.same told))
-    (c.run_commands.ensures.short is now i left)
+    inr (ap batches ((started.ready.store now).store.settled i was) ∙ started.same over.told))
+    (c.run_commands.ensures.short is (idle (session_in c.run_commands.new.state) leads) now i left)
 
 pub returns-in-Err-Refused-clause-done : goal.returns-in-Err-Refused-clause-done
 returns-in-Err-Refused-clause-done g c ended db events over =

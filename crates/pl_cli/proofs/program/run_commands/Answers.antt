@@ -55,20 +55,35 @@ pub returns-in-Err-Stopped-Memory-clause-continues : goal.returns-in-Err-Stopped
 returns-in-Err-Stopped-Memory-clause-continues g c = let t = some_trace c.args.script.now c.args.steps c.args.stops (session_in c.args.state.now) in (c.run_script.ensures.moments t.0 t.1).continues
 
 pub returns-in-Ok-Whole-clause-short : goal.returns-in-Ok-Whole-clause-short
-returns-in-Ok-Whole-clause-short g c is told i left =
+returns-in-Ok-Whole-clause-short g c is idle told i left =
     let t = some_trace c.args.script.now c.args.steps c.args.stops (session_in c.args.state.now) in
-    short_image (g.H.Disk.view c.run_script.new.host) c.run_script.new.self c.args.host.now c.run_script.new.host c.in-Ok-Whole.ensures.ready_again ((c.run_script.ensures.moments t.0 t.1).continues.told told) c.in-Ok-Whole.ensures.short i left
+    short_image (g.H.Disk.view c.run_script.new.host) c.run_script.new.self c.args.host.now c.run_script.new.host c.in-Ok-Whole.ensures.ready_again ((c.run_script.ensures.moments t.0 t.1).continues.told told) idle c.in-Ok-Whole.ensures.short i left
 
 pub returns-in-Ok-AtError-clause-short : goal.returns-in-Ok-AtError-clause-short
-returns-in-Ok-AtError-clause-short g c is told i left =
+returns-in-Ok-AtError-clause-short g c is idle told i left =
     let t = some_trace c.args.script.now c.args.steps c.args.stops (session_in c.args.state.now) in
-    short_image (g.H.Disk.view c.run_script.new.host) c.run_script.new.self c.args.host.now c.run_script.new.host c.in-Ok-AtError.ensures.ready_again ((c.run_script.ensures.moments t.0 t.1).continues.told told) c.in-Ok-AtError.ensures.short i left
+    short_image (g.H.Disk.view c.run_script.new.host) c.run_script.new.self c.args.host.now c.run_script.new.host c.in-Ok-AtError.ensures.ready_again ((c.run_script.ensures.moments t.0 t.1).continues.told told) idle c.in-Ok-AtError.ensures.short i left
 
 pub returns-in-Err-Stopped-Disk-clause-short : goal.returns-in-Err-Stopped-Disk-clause-short
-returns-in-Err-Stopped-Disk-clause-short g c is told i left = absurd (⊎_elim (λ h. cc) (λ h. cc) is)
+returns-in-Err-Stopped-Disk-clause-short g c is idle told i left = absurd (⊎_elim (λ h. cc) (λ h. cc) is)
 
 pub returns-in-Err-Stopped-Say-clause-short : goal.returns-in-Err-Stopped-Say-clause-short
-returns-in-Err-Stopped-Say-clause-short g c is told i left = absurd (⊎_elim (λ h. cc) (λ h. cc) is)
+returns-in-Err-Stopped-Say-clause-short g c is idle told i left = absurd (⊎_elim (λ h. cc) (λ h. cc) is)
 
 pub returns-in-Err-Stopped-Memory-clause-short : goal.returns-in-Err-Stopped-Memory-clause-short
-returns-in-Err-Stopped-Memory-clause-short g c is told i left = absurd (⊎_elim (λ h. cc) (λ h. cc) is)
+returns-in-Err-Stopped-Memory-clause-short g c is idle told i left = absurd (⊎_elim (λ h. cc) (λ h. cc) is)
+
+pub returns-in-Ok-Whole-clause-session : goal.returns-in-Ok-Whole-clause-session
+returns-in-Ok-Whole-clause-session g c is = c.in-Ok-Whole.ensures.session
+
+pub returns-in-Ok-AtError-clause-session : goal.returns-in-Ok-AtError-clause-session
+returns-in-Ok-AtError-clause-session g c is = c.in-Ok-AtError.ensures.session
+
+pub returns-in-Err-Stopped-Disk-clause-session : goal.returns-in-Err-Stopped-Disk-clause-session
+returns-in-Err-Stopped-Disk-clause-session g c is = absurd (⊎_elim (λ h. cc) (λ h. cc) is)
+
+pub returns-in-Err-Stopped-Say-clause-session : goal.returns-in-Err-Stopped-Say-clause-session
+returns-in-Err-Stopped-Say-clause-session g c is = absurd (⊎_elim (λ h. cc) (λ h. cc) is)
+
+pub returns-in-Err-Stopped-Memory-clause-session : goal.returns-in-Err-Stopped-Memory-clause-session
+returns-in-Err-Stopped-Memory-clause-session g c is = absurd (⊎_elim (λ h. cc) (λ h. cc) is)

@@ -1,36 +1,44 @@
+use Rattle.std.proofs.Common.{refl}
 use Rattle.pl_port.specs.PortLaws.{nothing_along}
+use Rattle.pl_reading.specs.declared.reading.Reading.TheVariants.{Refused}
 use Rattle.pl_session.proofs.Ends.{answered_end, answered_moments, refusal, unrefused}
-use Rattle.pl_session.proofs.Went.{refused_in}
 use Rattle.pl_session.specs.State.{database_in, session_in}
 use Rattle.pl_session.specs.Traces.{events_in}
+use Rattle.pl_session.specs.declared.state.SessionState.{SessionState}
 use Rattle.pl_session.proofs.state.SessionState.refuse_piece.Goals as goal
 use Rattle.pl_world.specs.Sessions.{refused}
 
+pub refuse-requires : goal.refuse-requires
+refuse-requires g c = record { stands = c.requires.ready.stands }
+
 pub returns-in_err-answer-clause-moments : goal.returns-in_err-answer-clause-moments
-returns-in_err-answer-clause-moments g c r is =
-    nothing_along (g.H.Disk.view c.args.host.now) (events_in c.args.steps r (session_in c.args.self.now)) (database_in c.args.self.now)
+returns-in_err-answer-clause-moments g c =
+    nothing_along (g.H.Disk.view c.args.host.now) (events_in c.args.steps (Refused c.args.state) (session_in c.args.self.now)) (database_in c.args.self.now)
 
 pub returns-in_err-answer-clause-ended : goal.returns-in_err-answer-clause-ended
-returns-in_err-answer-clause-ended g c r is =
-    unrefused (g.H.Disk.view c.args.host.now) c.args.self.now c.args.steps r c.from_residual.result c.from_residual.ensures.1 c.requires.ready
+returns-in_err-answer-clause-ended g c =
+    let before = c.args.self.now in
+    let state : SessionState = record before { transaction = c.refuse.new.transaction } in
+    unrefused (g.H.Disk.view c.args.host.now) before state c.args.state c.args.steps c.in_err-answer.field-0.0 c.from_residual.result c.from_residual.ensures.1 c.in_err-answer.ensures c.requires.ready
 
 pub returns-clause-moments : goal.returns-clause-moments
-returns-clause-moments g c r is =
+returns-clause-moments g c =
     let a = g.H.Disk.view c.args.host.now in
     let d = g.H.Disk.view c.say_reply.new.host in
-    let state = c.args.self.now in
-    let reply = c.in_ok-answer.answer.reply in
-    let code = c.args.state in
-    answered_moments a a d state state c.args.steps r (refused code (session_in state)) reply c.requires.ready (refused_in r code c.args.steps (session_in state) is)
-    (refusal a state code reply c.in_ok-answer.ensures.reply) c.say_reply.ensures.moments
+    let before = c.args.self.now in
+    let state : SessionState = record before { transaction = c.refuse.new.transaction } in
+    answered_moments a a d before state c.args.steps (Refused c.args.state) (refused c.args.state (session_in before)) c.in_ok-answer.answer.reply c.requires.ready refl
+    (refusal a before c.refuse.new.transaction c.args.state c.in_ok-answer.answer c.in_ok-answer.ensures) c.say_reply.ensures.moments
 
 pub returns-clause-ended : goal.returns-clause-ended
-returns-clause-ended g c r is =
+returns-clause-ended g c =
     let a = g.H.Disk.view c.args.host.now in
     let d = g.H.Disk.view c.say_reply.new.host in
-    let state = c.args.self.now in
-    let reply = c.in_ok-answer.answer.reply in
-    let code = c.args.state in
+    let before = c.args.self.now in
+    let state : SessionState = record before { transaction = c.refuse.new.transaction } in
     let said = c.say_reply.ensures in
-    answered_end a a d state state c.args.steps r (refused code (session_in state)) reply c.requires.ready (refused_in r code c.args.steps (session_in state) is)
-    (refusal a state code reply c.in_ok-answer.ensures.reply) said.moments c.say_reply.result c.requires.ready.is_open (c.requires.ready.settled, c.requires.ready.idle) said.images said.printed said.failed said.cause
+    answered_end a a d before state c.args.steps (Refused c.args.state) (refused c.args.state (session_in before)) c.in_ok-answer.answer.reply c.requires.ready refl
+    (refusal a before c.refuse.new.transaction c.args.state c.in_ok-answer.answer c.in_ok-answer.ensures) said.moments c.say_reply.result c.requires.ready.is_open said.images said.printed said.failed said.cause
+
+pub say_reply-requires : goal.say_reply-requires
+say_reply-requires g c = record { lines = c.in_ok-answer.ensures.lines }

@@ -8,7 +8,7 @@ abbrev pub invariant-pieces : goal.invariant-pieces
 invariant-pieces g l = record {
   within : l.at ≤ length l.fn.script;
   ready : IsReady (g.H.Disk.view l.host) l.self;
-  short : StaysShort l.self.keeper l.fn.host l.host;
+  short : StaysShort (session_in l.self).mode l.self.keeper l.fn.host l.host;
   progress : Progress (g.H.Disk.view l.fn.host) (g.H.Disk.view l.host) l.fn.steps l.fn.stops l.fn.script l.at (session_in l.fn.self) (session_in l.self);
 }
 

@@ -1,8 +1,7 @@
-use Rattle.std.proofs.Common.{ap}
 use Rattle.pl_port.specs.PortLaws.{nothing_along}
 use Rattle.pl_session.proofs.Ends.{nothing_left}
 use Rattle.pl_session.specs.State.{database_in, session_in}
-use Rattle.pl_session.specs.Traces.{events_in, waiting}
+use Rattle.pl_session.specs.Traces.{events_in}
 use Rattle.pl_session.proofs.state.SessionState.run_reading.Goals as goal
 
 pub returns-in-Nothing-clause-moments : goal.returns-in-Nothing-clause-moments
@@ -11,9 +10,3 @@ returns-in-Nothing-clause-moments g c =
 
 pub returns-in-Nothing-clause-ended : goal.returns-in-Nothing-clause-ended
 returns-in-Nothing-clause-ended g c = nothing_left (g.H.Disk.view c.args.host.now) c.args.self.now c.args.steps c.args.reading c.in-Nothing.is c.requires.ready
-
-pub returns-in-Refused-clause-moments : goal.returns-in-Refused-clause-moments
-returns-in-Refused-clause-moments g c = c.refuse_piece.ensures.moments c.args.reading (ap waiting c.in-Refused.is)
-
-pub returns-in-Refused-clause-ended : goal.returns-in-Refused-clause-ended
-returns-in-Refused-clause-ended g c = c.refuse_piece.ensures.ended c.args.reading (ap waiting c.in-Refused.is)

@@ -92,4 +92,4 @@ returns-clause-started g c =
     let a = g.H.Disk.view c.args.host.now in
     let m = g.H.Disk.view c.recover.new.disk in
     let d = g.H.Disk.view c.fold.new.host in
-    started a m d c.in_ok-reader.reader _ c.in_ok-journal.journal.now c.requires c.recover.ensures.writes.moments.continues c.fold.ensures.looks c.in_ok-reader.ensures.recovered c.in_ok-journal.ensures.folded c.new.ensures refl
+    started a m d c.in_ok-reader.reader _ c.in_ok-journal.journal.now c.requires c.recover.ensures.writes.moments.continues c.fold.ensures.looks c.in_ok-reader.ensures.recovered c.in_ok-journal.ensures.folded c.new.ensures c.new-2.ensures.mode c.new-2.ensures.names refl

@@ -1,0 +1,7 @@
+mod Ends
+mod Equations
+mod Pairs
+mod Plain
+mod Quiet
+mod Refused
+mod Saves
