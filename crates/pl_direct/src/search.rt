@@ -23,7 +23,8 @@ fn also<'a>(
 ) -> Option<Option<Spot<'a>>>
     ensures { IfSome result (λ all.
         spec.here (is_some all) 0 (column_of all) (ty_of all) false
-        ≡ spec.also (spec.here (is_some found.entry) 0 (column_of found.entry) (ty_of found.entry) false)
+        ≡ spec.also
+        (spec.here (is_some found.entry) 0 (column_of found.entry) (ty_of found.entry) false)
         (spec.here is 0 column seen.now.ty false)) }
 {
     match (found, is) {
@@ -36,7 +37,8 @@ fn also<'a>(
 // What further in hides.
 fn nearer<'a>(inner: Option<Spot<'a>>, outer: Option<Spot<'a>>) -> Option<Spot<'a>>
     ensures { spec.here (is_some result) 0 (column_of result) (ty_of result) false
-        ≡ spec.nearer (spec.here (is_some inner.entry) 0 (column_of inner.entry) (ty_of inner.entry) false)
+        ≡ spec.nearer
+        (spec.here (is_some inner.entry) 0 (column_of inner.entry) (ty_of inner.entry) false)
         (spec.here (is_some outer.entry) 0 (column_of outer.entry) (ty_of outer.entry) false) }
 {
     match inner {
