@@ -43,6 +43,9 @@ class Place:
 
 
 class BodyMaker:
+    simple, conditions = SIMPLE, CONDITIONS
+    handled = 0.25  # how likely the outermost block of a routine has each handler
+
     def __init__(self, seed, has_sessions=True):
         self.random, self.functions, self.procedures, self.counters = random.Random(seed), [], [], 0
         self.has_sessions = has_sessions
@@ -138,7 +141,7 @@ class BodyMaker:
         if place.deep and self.chance(0.34):
             inner = dataclasses.replace(place, deep=place.deep - 1)
             return getattr(self, self.choose(*NESTED))(inner)
-        return getattr(self, f"some_{self.choose(*SIMPLE)}")(place) or self.some_notice(place)
+        return getattr(self, f"some_{self.choose(*self.simple)}")(place) or self.some_notice(place)
 
     def some_assign(self, place):
         return tree.Assign(self.target(place), self.number(place)) if place.names else None
@@ -259,7 +262,7 @@ class BodyMaker:
     def handlers(self, place, label, likely):
         place = dataclasses.replace(place.inside(label, ()), in_handler=True)
         return tuple(
-            tree.Handler(tuple(self.choose(*CONDITIONS) for _ in self.some(1, 2)), self.statements(place))
+            tree.Handler(tuple(self.choose(*self.conditions) for _ in self.some(1, 2)), self.statements(place))
             for _ in self.some(1, 3) if self.chance(likely)
         )
 
@@ -275,7 +278,7 @@ class BodyMaker:
         statements = self.statements(inner, 2, 5)
         if kind == "function" and self.chance(0.9):
             statements += (tree.Return(self.number(inner)),)
-        handlers = self.handlers(inner, label, 0.25)
+        handlers = self.handlers(inner, label, self.handled)
         block = tree.Block(label, (*declared, tree.Declared("st", "text")), statements, handlers)
         return tree.Routine(name, parameters, "integer" if kind == "function" else None, block)
 

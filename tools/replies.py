@@ -66,12 +66,16 @@ class Store:
     def __exit__(self, *_):
         self.folder.cleanup()
 
-    def replies(self, commands):
-        """The status of a run over these commands, and its replies. Each run opens the store again."""
+    def prints(self, commands, *options):
+        """The status of a run over these commands, and what it prints. Each run opens the store again."""
         script = os.path.join(self.folder.name, "script.sql")
         with open(script, "w", encoding="utf-8") as it:
-            it.write("\n".join(commands) + "\n")
-        status, printed = run([self.program, os.path.join(self.folder.name, "store"), script], "")
+            it.writelines(f"{command}\n" for command in commands)
+        return run([self.program, os.path.join(self.folder.name, "store"), script, *options], "")
+
+    def replies(self, commands):
+        """The status of a run over these commands, and its replies."""
+        status, printed = self.prints(commands)
         return status, replies_of(printed, commands)
 
 
