@@ -56,12 +56,14 @@ class RaiseCondition:
         return f"RAISE {spelled(self.condition)} USING MESSAGE = 'as told';"
 
 
-def cuts_of(it):
-    """The tree without one of its parts, or with one that is cut down, in each way."""
+def cuts_of(it, is_list=True):
+    """The tree without one of its parts, or with one that is cut down, in each way. Tuples in a list are of a condition,
+    or of values, and of statements."""
     if isinstance(it, tuple):
-        yield from without_each(it)
-        yield from (it[:at] + held + it[at + 1 :] for at, part in enumerate(it) for held in held_by(part))
-        yield from with_each_cut(it, cuts_of)
+        if is_list:
+            yield from without_each(it)
+            yield from (it[:at] + held + it[at + 1 :] for at, part in enumerate(it) for held in held_by(part))
+        yield from with_each_cut(it, lambda part: cuts_of(part, not is_list))
     elif dataclasses.is_dataclass(it):
         for field in dataclasses.fields(it):
             for cut in cuts_of(getattr(it, field.name)):
