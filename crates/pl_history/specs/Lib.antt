@@ -1,4 +1,5 @@
 pub mod History
 pub mod HistoryLaws
+pub mod Links
 pub mod Pairs
 pub mod Undo

@@ -5,6 +5,7 @@
 #![tactic(auto)]
 
 mod cells;
+mod links;
 mod pairs;
 
 pub use pairs::Pairs;

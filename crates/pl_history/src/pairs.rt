@@ -7,6 +7,7 @@ ghost use Rattle.pl_history.specs.History.{back, changed, settled};
 ghost use Rattle.pl_history.specs.Pairs.{IsFree, IsFreeBeside};
 
 use crate::cells::{drop_last, put};
+use crate::links::Link;
 use std::alloc::{AllocError, Global};
 use std::marker::Model;
 
@@ -22,9 +23,9 @@ pub enum Change {
 /// Numbers at places, each at one place at most. Both count from 0.
 #[derive(Drop)]
 pub struct Pairs {
-    numbers: Vec<Option<usize>>,
+    numbers: Vec<Link>,
     /// Where each number is.
-    places: Vec<Option<usize>>,
+    places: Vec<Link>,
     changes: Vec<Change>,
 }
 
@@ -81,7 +82,7 @@ impl Pairs {
             ↔ (slice_get self.now.numbers.current at ≡ Some (Some number)) }
     {
         if number < self.places.len() {
-            self.places[number]
+            self.places[number].get()
         } else {
             None
         }
@@ -93,7 +94,7 @@ impl Pairs {
         ensures ok { OnOk result (self.new.count ≡ self.old.count + 1) }
         ensures err { OnErr result (self.new.count ≡ self.old.count) }
     {
-        self.places.push(None)?;
+        self.places.push(Link::NONE)?;
         Ok(())
     }
 
@@ -107,7 +108,7 @@ impl Pairs {
         ensures err { OnErr result (self.new ≡ self.old) }
     {
         self.changes.reserve(1)?;
-        self.numbers.push(None)?;
+        self.numbers.push(Link::NONE)?;
         let at = self.numbers.len() - 1;
         put(&mut self.numbers, &mut self.places, at, number);
         self.changes.push_reserved(Change::Pushed);
@@ -125,7 +126,7 @@ impl Pairs {
         ensures err { OnErr result (self.new ≡ self.old) }
     {
         self.changes.reserve(1)?;
-        let old = self.numbers[at];
+        let old = self.numbers[at].get();
         put(&mut self.numbers, &mut self.places, at, number);
         self.changes.push_reserved(Change::Set { at, number: old });
         Ok(())

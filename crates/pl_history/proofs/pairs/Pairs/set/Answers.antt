@@ -14,18 +14,20 @@ invariant_of-self-2 c =
     let ns = c.self.inside.numbers.items in
     let cs = c.self.inside.changes.items in
     let there : c.args.at < length ns = subst (λ (q : Paired). c.args.at < length q.numbers.current) (sym c.self.view_is) c.requires.there in
-    let has : slice_get ns c.args.at ≡ Some c.index-old.result.now = slice_get_read ns (length ns) c.args.at c.index-old.result.now refl there c.index-old.ensures in
-    let is : c.push_reserved.new.self.items ≡ cs ++ (Set c.args.at c.index-old.result.now) ∷ [] = c.push_reserved.ensures.items ∙ ap (λ (ds : List Change). ds ++ (Set c.args.at c.index-old.result.now) ∷ []) c.reserve.ensures.items in
-    let undone : undo_one (Set c.args.at c.index-old.result.now) c.put.new.numbers.items ≡ ns = ap (undo_one (Set c.args.at c.index-old.result.now)) c.put.ensures.numbers ∙ back_set ns c.args.at c.args.number c.index-old.result.now has in
-    (c.put.ensures.inverse, fits_on cs c.push_reserved.new.self.items (Set c.args.at c.index-old.result.now) ns c.put.new.numbers.items is undone (length c.self.inside.places.items) (length c.put.new.places.items) c.put.ensures.len c.self.invariant.1 (fits_now ns c.self.inside.places.items c.self.invariant.0))
+    let old : Option ℕ = c.get-old.result in
+    let has : slice_get ns c.args.at ≡ Some old = slice_get_read ns (length ns) c.args.at c.index.result.now refl there c.index.ensures ∙ ap (λ (o : Option ℕ). let r : Option (Option ℕ) = Some o in r) (sym c.get-old.ensures) in
+    let is : c.push_reserved.new.self.items ≡ cs ++ (Set c.args.at old) ∷ [] = c.push_reserved.ensures.items ∙ ap (λ (ds : List Change). ds ++ (Set c.args.at old) ∷ []) c.reserve.ensures.items in
+    let undone : undo_one (Set c.args.at old) c.put.new.numbers.items ≡ ns = ap (undo_one (Set c.args.at old)) c.put.ensures.numbers ∙ back_set ns c.args.at c.args.number old has in
+    (c.put.ensures.inverse, fits_on cs c.push_reserved.new.self.items (Set c.args.at old) ns c.put.new.numbers.items is undone (length c.self.inside.places.items) (length c.put.new.places.items) c.put.ensures.len c.self.invariant.1 (fits_now ns c.self.inside.places.items c.self.invariant.0))
 
 pub returns-clause-ok : goal.returns-clause-ok
 returns-clause-ok c =
     let ns = c.self.inside.numbers.items in
     let cs = c.self.inside.changes.items in
     let there : c.args.at < length ns = subst (λ (q : Paired). c.args.at < length q.numbers.current) (sym c.self.view_is) c.requires.there in
-    let has : slice_get ns c.args.at ≡ Some c.index-old.result.now = slice_get_read ns (length ns) c.args.at c.index-old.result.now refl there c.index-old.ensures in
-    let is : c.push_reserved.new.self.items ≡ cs ++ (Set c.args.at c.index-old.result.now) ∷ [] = c.push_reserved.ensures.items ∙ ap (λ (ds : List Change). ds ++ (Set c.args.at c.index-old.result.now) ∷ []) c.reserve.ensures.items in
-    let undone : undo_one (Set c.args.at c.index-old.result.now) c.put.new.numbers.items ≡ ns = ap (undo_one (Set c.args.at c.index-old.result.now)) c.put.ensures.numbers ∙ back_set ns c.args.at c.args.number c.index-old.result.now has in
-    gone_on cs c.push_reserved.new.self.items (Set c.args.at c.index-old.result.now) ns c.put.new.numbers.items is undone
+    let old : Option ℕ = c.get-old.result in
+    let has : slice_get ns c.args.at ≡ Some old = slice_get_read ns (length ns) c.args.at c.index.result.now refl there c.index.ensures ∙ ap (λ (o : Option ℕ). let r : Option (Option ℕ) = Some o in r) (sym c.get-old.ensures) in
+    let is : c.push_reserved.new.self.items ≡ cs ++ (Set c.args.at old) ∷ [] = c.push_reserved.ensures.items ∙ ap (λ (ds : List Change). ds ++ (Set c.args.at old) ∷ []) c.reserve.ensures.items in
+    let undone : undo_one (Set c.args.at old) c.put.new.numbers.items ≡ ns = ap (undo_one (Set c.args.at old)) c.put.ensures.numbers ∙ back_set ns c.args.at c.args.number old has in
+    gone_on cs c.push_reserved.new.self.items (Set c.args.at old) ns c.put.new.numbers.items is undone
     ∙ (ap (λ (ms : List (Option ℕ)). changed ms (history undo_one cs ns)) c.put.ensures.numbers ∙ ap (λ (q : Paired). changed (slice_set q.numbers.current c.args.at c.args.number) q.numbers) c.self.view_is)
