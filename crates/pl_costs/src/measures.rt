@@ -1,7 +1,7 @@
 //! The measures.
 
 use crate::maps::{Maps, add_and_take, fill_maps, look_in_maps, scan_maps};
-use crate::rows::{fill, fill_in_commits, look, mark_often, new_store, scan};
+use crate::rows::{fill, fill_in_commits, look, look_by_name, mark_often, new_store, scan};
 use pl_base::Name;
 use std::io;
 use std::time::{Duration, Instant};
@@ -15,6 +15,8 @@ pub enum Measure {
     Commits,
     /// Looking up each key.
     Finds,
+    /// The same, with the table looked up by its name for each key.
+    NamedFinds,
     /// As many times a mark, an insert and going back to the mark.
     Marks,
     /// A scan of three columns.
@@ -29,10 +31,11 @@ pub enum Measure {
     MapScan,
 }
 
-pub const MEASURES: [Measure; 9] = [
+pub const MEASURES: [Measure; 10] = [
     Measure::Inserts,
     Measure::Commits,
     Measure::Finds,
+    Measure::NamedFinds,
     Measure::Marks,
     Measure::Scan,
     Measure::MapInserts,
@@ -47,6 +50,7 @@ impl Measure {
             Measure::Inserts => "inserts",
             Measure::Commits => "commits",
             Measure::Finds => "finds",
+            Measure::NamedFinds => "named-finds",
             Measure::Marks => "marks",
             Measure::Scan => "scan",
             Measure::MapInserts => "map-inserts",
@@ -91,6 +95,7 @@ fn run_on(rt: HostRuntime, measure: Measure, name: Name, rows: i32) -> io::Resul
         Measure::Inserts => inserts(rt, name, rows),
         Measure::Commits => commits(rt, name, rows),
         Measure::Finds => finds(rt, name, rows),
+        Measure::NamedFinds => named_finds(rt, name, rows),
         Measure::Marks => marks(rt, name, rows),
         Measure::Scan => scanned(rt, name, rows),
         Measure::MapInserts => map_inserts(rt, rows),
@@ -122,6 +127,15 @@ fn finds(rt: HostRuntime, name: Name, rows: i32) -> io::Result<Cost> {
     let _rows = fill(alloc, &mut store, name, rows, 2)?;
     let start = Instant::now(&rt)?;
     let count = look(&store, name, rows);
+    since(rt, start, count)
+}
+
+fn named_finds(rt: HostRuntime, name: Name, rows: i32) -> io::Result<Cost> {
+    let alloc = rt.alloc();
+    let mut store = new_store(alloc, name)?;
+    let _rows = fill(alloc, &mut store, name, rows, 2)?;
+    let start = Instant::now(&rt)?;
+    let count = look_by_name(&store, name, rows);
     since(rt, start, count)
 }
 

@@ -5,6 +5,7 @@ ghost use Rattle.pl_tables.specs.Named.{content_named};
 
 use pl_base::{Cells, List, Name, Txt, Value};
 use pl_catalog::{Object, Rule, RuleKind, TableDef};
+use pl_tables::Table;
 use pl_undo::{Mark, Store};
 use pl_unique::Part;
 use std::alloc::{AllocError, Global};
@@ -96,18 +97,36 @@ pub fn fill_in_commits(
     Ok(count)
 }
 
-fn is_found(store: &Store, name: Name, parts: &[Part]) -> bool {
+fn is_found(table: &Table, parts: &[Part]) -> bool {
+    table.key_count() > 0 && table.find_key(0, parts).is_some()
+}
+
+/// Looks up each key in the table, and counts those that are found.
+pub fn look(store: &Store, name: Name, rows: i32) -> i64 {
+    let Some(table) = store.tables().table(name) else {
+        return 0;
+    };
+    let mut count: i64 = 0;
+    for number in 0..rows {
+        if is_found(table, &[Part::Number(i64::from(number))]) {
+            count = count.saturating_add(1);
+        }
+    }
+    count
+}
+
+fn is_found_by_name(store: &Store, name: Name, parts: &[Part]) -> bool {
     match store.tables().table(name) {
-        Some(table) if table.key_count() > 0 => table.find_key(0, parts).is_some(),
-        _ => false,
+        Some(table) => is_found(table, parts),
+        None => false,
     }
 }
 
-/// Looks up each key, and counts those that are found.
-pub fn look(store: &Store, name: Name, rows: i32) -> i64 {
+/// Looks up the table by its name for each key, and the key. Counts the keys that are found.
+pub fn look_by_name(store: &Store, name: Name, rows: i32) -> i64 {
     let mut count: i64 = 0;
     for number in 0..rows {
-        if is_found(store, name, &[Part::Number(i64::from(number))]) {
+        if is_found_by_name(store, name, &[Part::Number(i64::from(number))]) {
             count = count.saturating_add(1);
         }
     }
