@@ -62,6 +62,7 @@ impl KeyMap {
     }
 
     /// The place that has this key. None where no place has it.
+    #[inline]
     pub fn place_of(&self, key: &[Part]) -> Option<usize>
         ensures { (at : _) → (result ≡ Some at)
             ↔ (slice_get self.now.current at ≡ Some (Some key.now)) }

@@ -2,6 +2,8 @@
 
 ghost use Rattle.std.specs.Prelude.{◌≡◌, ◌≢◌, ◌∷◌, ◌++◌, ◌↔◌, ℕ, [], Some, length, slice_get};
 ghost use Rattle.std.specs.Prelude.{IfOk, OnOk, OnErr};
+ghost use Rattle.std.specs.List.{position};
+ghost use Rattle.pl_unique.specs.Numbered.{same_key};
 
 use crate::key_parts::{Asked, alone};
 use crate::{KeyParts, Part};
@@ -42,12 +44,13 @@ impl Keys {
     }
 
     /// The number of this key. None where it isn't there.
+    #[inline]
     pub(crate) fn number_of(&self, key: &[Part]) -> Option<usize>
         ensures { (n : _) → (result ≡ Some n) ↔ (slice_get self.now n ≡ Some key.now) }
     {
         match alone(key) {
             Some(number) => self.set.get_index_of(number),
-            None => self.set.get_index_of(Asked { parts: key }),
+            None => number_by_parts(&self.set, key),
         }
     }
 
@@ -62,4 +65,12 @@ impl Keys {
         self.set.insert(key)?;
         Ok(number)
     }
+}
+
+// It stands apart, so that looking up a number alone takes few instructions.
+#[inline(never)]
+fn number_by_parts(set: &IndexSet<KeyParts>, key: &[Part]) -> Option<usize>
+    ensures { result ≡ position (same_key key.now) set.now.keys }
+{
+    set.get_index_of(Asked { parts: key })
 }

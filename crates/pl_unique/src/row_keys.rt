@@ -31,6 +31,14 @@ pub enum KeyFail {
     Memory,
 }
 
+impl From<AllocError> for KeyFail {
+    fn from(_: AllocError) -> Self
+        ensures { result ≡ KeyFail.Memory }
+    {
+        KeyFail::Memory
+    }
+}
+
 /// Keys of these columns, without rows.
 pub fn new_keys(alloc: Global, columns: &[List<usize>]) -> Result<Vec<Key>, AllocError>
     ensures columns { IfOk result (λ keys. columns_of keys.items ≡ columns.now) }
@@ -123,7 +131,7 @@ fn change_key(
         Some(at) => Err(KeyFail::Taken(at)),
         None => match put(&mut key.at, place, parts) {
             Ok(()) => Ok(()),
-            Err(_) => Err(KeyFail::Memory),
+            Err(fail) => Err(KeyFail::from(fail)),
         },
     }
 }

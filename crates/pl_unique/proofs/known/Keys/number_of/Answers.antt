@@ -27,6 +27,6 @@ returns-in-Some c n =
 pub returns-in-None : goal.returns-in-None
 returns-in-None c n =
     let key = c.args.key.now in
-    subst (λ (ks : List (List Part)). (c.get_index_of-in-None.result ≡ Some n) ↔ (slice_get ks n ≡ Some key)) c.self.view_is
-    (subst (λ (o : Option ℕ). (o ≡ Some n) ↔ (slice_get c.self.inside.set.keys n ≡ Some key)) (sym c.get_index_of-in-None.ensures.index)
+    subst (λ (ks : List (List Part)). (c.number_by_parts.result ≡ Some n) ↔ (slice_get ks n ≡ Some key)) c.self.view_is
+    (subst (λ (o : Option ℕ). (o ≡ Some n) ↔ (slice_get c.self.inside.set.keys n ≡ Some key)) (sym c.number_by_parts.ensures)
     (place_is (same_key key) key (told key) (holds key) same_key holds c.self.inside.set.keys c.self.invariant n))
