@@ -13,7 +13,7 @@ from processes import MEGABYTE, Run, Times, answer, check, run_whole, seconds_of
 
 PATIENCE = 300  # seconds that the queries of one run may take
 TIMES = 5  # how often a run makes its query
-FILE_ROWS = 500_000  # INSERTs of a script, which is then shorter than a script may be
+INSERT_ROWS = 1_000  # rows of an INSERT; a table's script is shorter than a script may be
 MOST_MEMORY = 3  # times what the rows take
 
 END = re.compile(rb"^\(\d+ rows?\)\n", re.M)
@@ -38,13 +38,14 @@ def write_tables(folder, tables, rows):
     """Writes the INSERTs of these tables. The answer is the paths, each with how many replies it has."""
     files = []
     for table in tables:
-        for first in range(0, rows, FILE_ROWS):
-            last = min(first + FILE_ROWS, rows)
-            path = os.path.join(folder, f"rows_{table}_{first}.sql")
-            with open(path, "w", encoding="ascii") as it:
-                it.write("" if first else f"CREATE TABLE {table} (c integer);\n")
-                it.writelines(f"INSERT INTO {table} VALUES ({value(table, at, rows)});\n" for at in range(first, last))
-            files.append((path, last - first + (first == 0)))
+        path, firsts = os.path.join(folder, f"rows_{table}.sql"), range(0, rows, INSERT_ROWS)
+        with open(path, "w", encoding="ascii") as it:
+            it.write(f"CREATE TABLE {table} (c integer);\n")
+            for first in firsts:
+                numbers = range(first, min(first + INSERT_ROWS, rows))
+                values = ", ".join(f"({value(table, at, rows)})" for at in numbers)
+                it.write(f"INSERT INTO {table} VALUES {values};\n")
+        files.append((path, 1 + len(firsts)))
     return files
 
 
@@ -75,11 +76,12 @@ def replies_in_time(words, end=END):
 
 
 class QueryCases:
-    """Each case has a store of its own. Its rows are loaded in memory where there is such a folder, by one INSERT
-    each. A run then makes the query a few times behind `SELECT 1`, whose reply is the moment at which they begin."""
+    """Each case has a store of its own. Its rows are loaded in memory where there is such a folder, by INSERTs of
+    many rows each; where a folder is given, the store is kept there, and one that is there isn't loaded again. A run
+    then makes the query a few times behind `SELECT 1`, whose reply is the moment at which they begin."""
 
-    def __init__(self, bench, share):
-        self.bench, self.share = bench, share
+    def __init__(self, bench, share, kept=None):
+        self.bench, self.share, self.kept = bench, share, kept
 
     def run(self):
         for rows, tables in dict.fromkeys((it.rows, it.tables) for it in CASES):
@@ -94,10 +96,12 @@ class QueryCases:
         memory = "/dev/shm" if os.access("/dev/shm", os.W_OK) else bench.folder
         with tempfile.TemporaryDirectory(dir=memory) as folder:
             os.chmod(folder, 0o755)  # the server's user reads scripts there
-            files, store = write_tables(folder, tables, rows), os.path.join(folder, "query.store")
-            loaded = bench.attempt(self.load, store, files)
+            files = write_tables(folder, tables, rows)
+            store = os.path.join(self.kept or folder, f"{''.join(tables)}_{rows}.store")
             by_server = bench.attempt(self.load_server, folder, tables, files) if bench.server else None
-            bench.add("load by INSERT", size, loaded, rate, self.shown(by_server))
+            if not os.path.exists(store):
+                loaded = bench.attempt(self.load, store, files)
+                bench.add("load by INSERTs", size, loaded, rate, self.shown(by_server))
             opened = bench.attempt(self.open, store)
             bench.add("open", size, opened, rate, "")
             for case in cases:
