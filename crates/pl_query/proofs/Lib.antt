@@ -13,3 +13,4 @@ mod Whole
 mod Few
 mod Standing
 mod Passing
+mod Turns

@@ -9,3 +9,4 @@ pub mod Running
 pub mod Serves
 pub mod Kept
 pub mod Along
+pub mod Straight

@@ -46,8 +46,8 @@ pub fn select_each<'a, C: Caller, S: Subqueries<C>>(
     Ok(rows)
 }
 
-// One row more: the values of the select list.
-fn add_row<'a, C: Caller, S: Subqueries<C>>(
+/// One row more: the values of the select list.
+pub fn add_row<'a, C: Caller, S: Subqueries<C>>(
     alloc: Global,
     items: &'a [RExpr],
     sub: &S,

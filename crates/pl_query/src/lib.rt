@@ -12,6 +12,7 @@ mod rows;
 mod running;
 mod sources;
 mod store;
+mod straight;
 mod tables;
 mod within;
 
