@@ -7,7 +7,7 @@ ghost use Rattle.pl_names.specs.Names.{around};
 ghost use Rattle.pl_scope.specs.Resolution.{factor_view, part, standing, term_view};
 
 use crate::Known;
-use crate::leaves::{constant, is_null_at, known_at, parameter, variable};
+use crate::leaves::{constant, is_null_there, known_at, known_there, parameter, variable};
 use crate::operators::{as_truth, both, calculated, compared, null_asked, opposite, signed};
 use pl_base::{Boxed, Value};
 use pl_catalog::Catalog;
@@ -51,8 +51,8 @@ fn known<C>(e: &Expr, names: &Names<'_>, variables: &[Value]) -> Option<Known>
             known_at(meaning, variables)
         }
         Expr::Name(name) => {
-            let meaning = variable(*name, names)?;
-            known_at(meaning, variables)
+            let spot = variable(name, names)?;
+            known_there(spot, variables)
         }
         Expr::Signed { signs, operand } => {
             let operand = boxed::<C>(operand, names, variables)?;
@@ -114,8 +114,8 @@ fn is_null<C>(e: &Boxed<Expr>, names: &Names<'_>, variables: &[Value]) -> Option
 {
     match e.get() {
         Expr::Name(name) => {
-            let meaning = variable(*name, names)?;
-            is_null_at(meaning, variables)
+            let spot = variable(name, names)?;
+            is_null_there(spot, variables)
         }
         e => {
             known::<C>(e, names, variables)?;

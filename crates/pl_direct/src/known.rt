@@ -26,8 +26,8 @@ impl Known {
     }
 
     /// The value of a variable of this type. None where it is null, or of another type.
-    pub(crate) fn of(ty: Ty, value: &Value) -> Option<Known>
-        ensures { IfSome result (λ known. Holds known ty value.now) }
+    pub(crate) fn of(ty: &Ty, value: &Value) -> Option<Known>
+        ensures { IfSome result (λ known. Holds known ty.now value.now) }
     {
         match (ty, value) {
             (Ty::Int, Value::Int(number)) => Some(Known::Int(*number)),

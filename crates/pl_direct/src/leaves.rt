@@ -2,14 +2,15 @@
 
 ghost use Rattle.std.specs.Prelude.{◌≡◌, IfSome, Ok};
 ghost use Rattle.pl_direct.specs.Known.{NullAt, NullIs, Stands, type_of, value_of};
+ghost use Rattle.pl_direct.specs.Search.{StandsFor, meaning_of};
 ghost use Rattle.pl_names.specs.Names as meanings;
 ghost use Rattle.pl_names.specs.Names.{around};
 ghost use Rattle.pl_typing.specs.Literals as literals;
 
 use crate::Known;
-use crate::search::variables_within;
+use crate::search::{Spot, variables_within};
 use pl_base::{Name, Value};
-use pl_names::{Meaning, Names, parameter_means};
+use pl_names::{Meaning, Names, Scope, parameter_means};
 use pl_tree::Literal;
 
 /// A number or a truth. None for a text and for NULL, and for a number that 64 bits can't hold.
@@ -53,23 +54,28 @@ fn sized(number: i64) -> Known
 
 // ---- variables
 
-/// What the name means, where it is one variable and no query is around.
-pub(crate) fn variable(name: Name, names: &Names<'_>) -> Option<Meaning>
-    ensures { IfSome result (λ m. (meanings.name_means name (around names.now) ≡ Ok m)
-        × (m.row ≡ 0)) }
+/// The variable that the name means, where it is one and no query is around. Nothing is copied.
+pub(crate) fn variable<'a>(name: &Name, names: &Names<'a>) -> Option<Spot<'a>>
+    ensures { IfSome result (λ spot. meanings.name_means name.now (around names.now)
+        ≡ Ok (meaning_of spot)) }
 {
     if names.levels.is_empty() {
-        return match variables_within(&name, names.scope.frames.as_slice())? {
-            Some(spot) => Some(Meaning {
-                row: 0,
-                column: spot.column,
-                ty: spot.seen.ty,
-                is_barred: false,
-            }),
+        return match variables_within(name, names.scope.frames.as_slice())? {
+            Some(spot) => Some(spot),
             None => None,
         };
     }
     None
+}
+
+/// The variable that the name means outside of queries, where it is one. Nothing is copied.
+pub fn direct_variable<'a>(scope: &'a Scope, name: &Name) -> Option<Spot<'a>>
+    ensures { IfSome result (λ spot. StandsFor name.now scope.now spot) }
+{
+    match variables_within(name, scope.frames.as_slice())? {
+        Some(spot) => Some(spot),
+        None => None,
+    }
 }
 
 /// What `$number` means, where there is such a parameter.
@@ -83,20 +89,29 @@ pub(crate) fn parameter(number: u16, names: &Names<'_>) -> Option<Meaning>
     }
 }
 
-/// The value of a variable. None where it is null, or neither a number nor a truth.
+/// The value of a parameter. None where it is null, or neither a number nor a truth.
 pub(crate) fn known_at(meaning: Meaning, variables: &[Value]) -> Option<Known>
     ensures { IfSome result (λ known. Stands meaning variables.now (type_of known)
         (value_of known)) }
 {
     let value = variables.get(meaning.column)?;
-    Known::of(meaning.ty, value)
+    Known::of(&meaning.ty, value)
+}
+
+/// The value of a variable. None where it is null, or neither a number nor a truth.
+pub(crate) fn known_there(spot: Spot<'_>, variables: &[Value]) -> Option<Known>
+    ensures { IfSome result (λ known. Stands (meaning_of spot.entry) variables.now (type_of known)
+        (value_of known)) }
+{
+    let value = variables.get(spot.column)?;
+    Known::of(&spot.seen.ty, value)
 }
 
 /// Whether a variable is null. None for a row, which is null where its fields are.
-pub(crate) fn is_null_at(meaning: Meaning, variables: &[Value]) -> Option<bool>
-    ensures { IfSome result (λ is_null. NullAt meaning variables.now is_null) }
+pub(crate) fn is_null_there(spot: Spot<'_>, variables: &[Value]) -> Option<bool>
+    ensures { IfSome result (λ is_null. NullAt (meaning_of spot.entry) variables.now is_null) }
 {
-    let value = variables.get(meaning.column)?;
+    let value = variables.get(spot.column)?;
     null_or_not(value)
 }
 

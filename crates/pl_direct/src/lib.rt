@@ -10,3 +10,5 @@ mod search;
 
 pub use direct::direct_value;
 pub use known::Known;
+pub use leaves::direct_variable;
+pub use search::Spot;

@@ -1,3 +1,4 @@
+use Rattle.std.proofs.Common.{refl}
 use Rattle.std.proofs.lemmas.Option.{IfSome_then}
 use Rattle.pl_direct.proofs.Joints.{and_is, no_condition, one_condition, or_is}
 use Rattle.pl_direct.proofs.Parts.{compare_is, literal_is, minus_is, name_is, not_is, null_is, null_variable, parameter_is}
@@ -12,13 +13,13 @@ pub known-returns-in_ok-meaning-in-Parameter : goal.known-returns-in_ok-meaning-
 known-returns-in_ok-meaning-in-Parameter g t c = rw (c.in-Parameter.is) (IfSome_then c.known_at.result c.known_at.ensures (λ k stands.
     parameter_is _ _ _ k _ c.in_ok-meaning-in-Parameter.ensures.0 c.in_ok-meaning-in-Parameter.ensures.1 stands))
 
-pub known-returns-in_ok-meaning-in-Name : goal.known-returns-in_ok-meaning-in-Name
-known-returns-in_ok-meaning-in-Name g t c = rw (c.in-Name.is) (IfSome_then c.known_at-in-Name.result c.known_at-in-Name.ensures (λ k stands.
-    name_is _ _ _ k _ c.in_ok-meaning-in-Name.ensures.0 c.in_ok-meaning-in-Name.ensures.1 stands))
+pub known-returns-in_ok-spot-in-Name : goal.known-returns-in_ok-spot-in-Name
+known-returns-in_ok-spot-in-Name g t c = rw (c.in-Name.is) (IfSome_then c.known_there.result c.known_there.ensures (λ k stands.
+    name_is _ _ _ k _ c.in_ok-spot-in-Name.ensures refl stands))
 
-pub is_null-returns-in_ok-meaning-in-Name : goal.is_null-returns-in_ok-meaning-in-Name
-is_null-returns-in_ok-meaning-in-Name g t c = rw (← c.get.ensures, c.in-Name.is) (IfSome_then c.is_null_at.result c.is_null_at.ensures (λ is at.
-    null_variable _ _ _ is _ c.in_ok-meaning-in-Name.ensures.0 c.in_ok-meaning-in-Name.ensures.1 at))
+pub is_null-returns-in_ok-spot-in-Name : goal.is_null-returns-in_ok-spot-in-Name
+is_null-returns-in_ok-spot-in-Name g t c = rw (← c.get.ensures, c.in-Name.is) (IfSome_then c.is_null_there.result c.is_null_there.ensures (λ is at.
+    null_variable _ _ _ is _ c.in_ok-spot-in-Name.ensures refl at))
 
 pub known-returns-in_ok-operand-in-Signed : goal.known-returns-in_ok-operand-in-Signed
 known-returns-in_ok-operand-in-Signed g t c = rw (c.in-Signed.is, ← c.as_slice.ensures) (IfSome_then c.signed.result c.signed.ensures (λ k both.
