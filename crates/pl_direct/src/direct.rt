@@ -5,15 +5,16 @@ ghost use Rattle.pl_direct.specs.Direct.{Directly, Is, Nullness};
 ghost use Rattle.pl_direct.specs.Runs.{Joins, Leads};
 ghost use Rattle.pl_names.specs.Names.{around};
 ghost use Rattle.pl_scope.specs.Resolution.{factor_view, part, standing, term_view};
+ghost use Rattle.pl_tree.specs.declared.tree.Expr.TheVariants as tree;
 
 use crate::Known;
 use crate::leaves::{constant, is_null_there, known_at, known_there, parameter, variable};
 use crate::operators::{as_truth, both, calculated, compared, null_asked, opposite, signed};
-use pl_base::{Boxed, Value};
+use pl_base::{Boxed, Name, Test, Value};
 use pl_catalog::Catalog;
 use pl_names::{Level, Names, Scope};
 use pl_scope::inside;
-use pl_tree::{Expr, Factor, Term};
+use pl_tree::{Expr, Factor, Sign, Term};
 
 // What names are sought in, outside of any query.
 fn names_in<'a>(catalog: &'a Catalog, scope: &'a Scope, none: &'a [Level<'a>]) -> Names<'a>
@@ -40,23 +41,17 @@ pub fn direct_value<C>(
     known::<C>(e, &names, variables)
 }
 
+// Most forms are read by a function of their own, so that others need no room for them.
 #[cycle(direct)]
 fn known<C>(e: &Expr, names: &Names<'_>, variables: &[Value]) -> Option<Known>
     ensures { IfSome result (λ known. Is C e.now (around names.now) variables.now known) }
 {
     match e {
         Expr::Literal(literal) => constant(literal),
-        Expr::Parameter(number) => {
-            let meaning = parameter(*number, names)?;
-            known_at(meaning, variables)
-        }
-        Expr::Name(name) => {
-            let spot = variable(name, names)?;
-            known_there(spot, variables)
-        }
+        Expr::Parameter(number) => numbered::<C>(*number, names, variables),
+        Expr::Name(name) => named::<C>(name, names, variables),
         Expr::Signed { signs, operand } => {
-            let operand = boxed::<C>(operand, names, variables)?;
-            signed(signs.as_slice(), operand)
+            negative::<C>(signs.as_slice(), operand, names, variables)
         }
         Expr::Product { first, factors } => {
             let first = boxed::<C>(first, names, variables)?;
@@ -79,25 +74,96 @@ fn known<C>(e: &Expr, names: &Names<'_>, variables: &[Value]) -> Option<Known>
             is_negated,
             operand,
             test,
-        } => {
-            let is_null = is_null::<C>(operand, names, variables)?;
-            null_asked(*is_negated, *test, is_null)
-        }
-        Expr::Not { count, operand } => {
-            let operand = boxed::<C>(operand, names, variables)?;
-            opposite(*count, operand)
-        }
-        Expr::And(list) => {
-            let truth = joined::<C>(false, list.as_slice(), names, variables)?;
-            Some(Known::Bool(truth))
-        }
-        Expr::Or(list) => {
-            let truth = joined::<C>(true, list.as_slice(), names, variables)?;
-            Some(Known::Bool(truth))
-        }
+        } => asking::<C>(*is_negated, *test, operand, names, variables),
+        Expr::Not { count, operand } => negated::<C>(*count, operand, names, variables),
+        Expr::And(list) => all_of::<C>(list.as_slice(), names, variables),
+        Expr::Or(list) => any_of::<C>(list.as_slice(), names, variables),
         _ => None,
     }
 }
+
+// ---- leaves
+
+fn numbered<C>(number: u16, names: &Names<'_>, variables: &[Value]) -> Option<Known>
+    ensures { IfSome result (λ known. Is C (tree.Parameter number) (around names.now) variables.now
+        known) }
+{
+    let meaning = parameter(number, names)?;
+    known_at(meaning, variables)
+}
+
+fn named<C>(name: &Name, names: &Names<'_>, variables: &[Value]) -> Option<Known>
+    ensures { IfSome result (λ known. Is C (tree.Name name.now) (around names.now) variables.now
+        known) }
+{
+    let spot = variable(name, names)?;
+    known_there(spot, variables)
+}
+
+// ---- operators
+
+#[cycle(direct)]
+fn negative<C>(
+    signs: &[Sign],
+    operand: &Boxed<Expr>,
+    names: &Names<'_>,
+    variables: &[Value],
+) -> Option<Known>
+    ensures { IfSome result (λ known. Is C (tree.Signed signs.now operand.now) (around names.now)
+        variables.now known) }
+{
+    let operand = boxed::<C>(operand, names, variables)?;
+    signed(signs, operand)
+}
+
+#[cycle(direct)]
+fn asking<C>(
+    is_negated: bool,
+    test: Test,
+    operand: &Boxed<Expr>,
+    names: &Names<'_>,
+    variables: &[Value],
+) -> Option<Known>
+    ensures { IfSome result (λ known. Is C (tree.Is is_negated operand.now test) (around names.now)
+        variables.now known) }
+{
+    let is_null = is_null::<C>(operand, names, variables)?;
+    null_asked(is_negated, test, is_null)
+}
+
+#[cycle(direct)]
+fn negated<C>(
+    count: usize,
+    operand: &Boxed<Expr>,
+    names: &Names<'_>,
+    variables: &[Value],
+) -> Option<Known>
+    ensures { IfSome result (λ known. Is C (tree.Not count operand.now) (around names.now)
+        variables.now known) }
+{
+    let operand = boxed::<C>(operand, names, variables)?;
+    opposite(count, operand)
+}
+
+#[cycle(direct)]
+fn all_of<C>(list: &[Expr], names: &Names<'_>, variables: &[Value]) -> Option<Known>
+    ensures { IfSome result (λ known. Is C (tree.And list.now) (around names.now) variables.now
+        known) }
+{
+    let truth = joined::<C>(false, list, names, variables)?;
+    Some(Known::Bool(truth))
+}
+
+#[cycle(direct)]
+fn any_of<C>(list: &[Expr], names: &Names<'_>, variables: &[Value]) -> Option<Known>
+    ensures { IfSome result (λ known. Is C (tree.Or list.now) (around names.now) variables.now
+        known) }
+{
+    let truth = joined::<C>(true, list, names, variables)?;
+    Some(Known::Bool(truth))
+}
+
+// ---- parts
 
 #[cycle(direct)]
 fn boxed<C>(e: &Boxed<Expr>, names: &Names<'_>, variables: &[Value]) -> Option<Known>
