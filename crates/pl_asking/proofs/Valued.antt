@@ -68,7 +68,7 @@ number_next at v w = as_number v at w number
 abbrev pub bound_next : Spot → Value → World → Ran Outcome
 bound_next at v w = as_type Integer v at w (number_next at)
 
-tested_is : (r : Runner) (at : Spot) (e : Expr) (w : World) → tested r at e w truth ≡ read_then r at e w (truth_next at)
+pub tested_is : (r : Runner) (at : Spot) (e : Expr) (w : World) → tested r at e w truth ≡ read_then r at e w (truth_next at)
 unfolding tested
 tested_is r at e w = refl
 
@@ -84,7 +84,7 @@ put_at to at v w = put to v at w
 abbrev pub assigned_to : Runner → Spot → Variable → Expr → World → Ran Outcome
 assigned_to r at to e w = resolved (reading e w.database.objects w.frame.static) at w (λ x. assigned r at (record { to = to; value = x }) w)
 
-assigned_is : (r : Runner) (at : Spot) (to : Variable) (e : Expr) (w : World) → assigned_to r at to e w ≡ read_then r at e w (put_at to at)
+pub assigned_is : (r : Runner) (at : Spot) (to : Variable) (e : Expr) (w : World) → assigned_to r at to e w ≡ read_then r at e w (put_at to at)
 unfolding assigned
 assigned_is r at to e w = refl
 

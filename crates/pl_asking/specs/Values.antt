@@ -1,23 +1,29 @@
 -- The values of expressions within statements, as they are answered.
-use Rattle.std.specs.Prelude.{◌≡◌, List, [], ◌∷◌, Option, Some, None, Result, Ok, Err}
+use Rattle.std.specs.Prelude.{◌≡◌, ℕ, Bool, false, List, [], ◌∷◌, Option, Some, None}
+use Rattle.std.specs.Prelude.{Result, Ok, Err, slice_get, unwrap_or}
 use Rattle.pl_base.specs.declared.types.Ty.{Ty}
 use Rattle.pl_base.specs.declared.value.Value.{Value}
 use Rattle.pl_base.specs.declared.value.Value.TheVariants.{Null}
+use Rattle.pl_calc.specs.Logic.{is_null}
 use Rattle.pl_calling.specs.Reading.{read_beside}
 use Rattle.pl_direct.specs.Direct.{Directly}
+use Rattle.pl_direct.specs.Known.{value_of as known_value}
 use Rattle.pl_direct.specs.declared.known.Known.{Known}
-use Rattle.pl_engine.specs.Asks.{returned}
+use Rattle.pl_direct.specs.declared.search.Spot as found
+use Rattle.pl_engine.specs.Asks.{returned, truth}
 use Rattle.pl_bodies.specs.declared.simple.Target.{Target}
 use Rattle.pl_tree.specs.declared.tree.Expr.{Expr}
 use Rattle.pl_value.specs.Frames.{Row}
-use Rattle.pl_world.specs.Assigning.{put}
+use Rattle.pl_world.specs.Assigning.{assigned, put}
 use Rattle.pl_world.specs.Calls.{Within}
+use Rattle.pl_world.specs.Control.{tested}
+use Rattle.pl_world.specs.Conversions.{converted}
 use Rattle.pl_world.specs.Errors.{Spot, resolved}
 use Rattle.pl_world.specs.Expressions.{evaluated}
-use Rattle.pl_world.specs.Resolving.{aiming, giving, matching, reading}
+use Rattle.pl_world.specs.Resolving.{Variable, aiming, giving, matching, placing, reading}
 use Rattle.pl_world.specs.Running.{Runner}
-use Rattle.pl_world.specs.Variables.{row_of}
-use Rattle.pl_world.specs.World.{World, Ran}
+use Rattle.pl_world.specs.Variables.{row_of, with_value}
+use Rattle.pl_world.specs.World.{World, Ran, ends}
 use Rattle.pl_world.specs.declared.outcome.Outcome.{Outcome}
 use Rattle.pl_world.specs.declared.outcome.Outcome.TheVariants as outcome
 
@@ -67,3 +73,30 @@ GivenAtOnce e w v =
     (r : Runner) (at : Spot)
     → resolved (giving e w.database.objects w.frame.static) at w (λ x. evaluated r at x w returned)
     ≡ returned v w
+
+-- a condition is true, or not, at once
+abbrev pub TestedAtOnce : Expr → World → Bool → Type 0
+TestedAtOnce e w b = (r : Runner) (at : Spot) → tested r at e w truth ≡ truth b w
+
+-- a variable that was found, as one that is given a value
+abbrev pub given_to : found.Spot → World → Variable
+given_to s w = record {
+  at = s.column;
+  ty = s.seen.now.ty;
+  is_required = unwrap_or (slice_get w.frame.static.required s.column) false;
+}
+
+-- the target names this variable
+abbrev pub AimsAt : Target → World → found.Spot → Type 0
+AimsAt t w s = aiming t w.database.objects w.frame.static ≡ Ok (given_to s w)
+
+-- this is the value as one of the type, and isn't null
+abbrev pub Fits : Ty → Known → Value → Type 0
+Fits t k v = (converted t (known_value k) ≡ Ok v) × (is_null v ≡ false)
+
+-- an assignment gives the variable of this place this value at once
+abbrev pub AssignedAtOnce : Target → Expr → World → ℕ → Value → Type 0
+AssignedAtOnce t e w place v =
+    (r : Runner) (at : Spot)
+    → resolved (placing t e w.database.objects w.frame.static) at w (λ p. assigned r at p w)
+    ≡ ends outcome.Next (with_value place v w)

@@ -10,6 +10,7 @@ ghost use Rattle.pl_world.specs.Resolving.{placing, reading};
 ghost use Rattle.pl_world.specs.Statements.{runner_for};
 
 use crate::answers::value_of;
+use crate::direct::stored_at_once;
 use crate::placing::put;
 use crate::resolving::aim;
 use crate::values::value;
@@ -47,8 +48,8 @@ fn assign_to<P: Port, R: BodyRunner>(
     }
 }
 
-/// `target := value`. The target is resolved first. 22004 where it takes no null and is given one.
-pub fn assign<P: Port, R: BodyRunner>(
+// The target is resolved first.
+fn assign_resolved<P: Port, R: BodyRunner>(
     calls: &Calls<'_, R>,
     engine: &mut Engine,
     port: &mut P,
@@ -70,5 +71,33 @@ pub fn assign<P: Port, R: BodyRunner>(
         Ok(to) => assign_to(calls, engine, port, at, to, e),
         Err(ScopeFail::State(state)) => Ok(engine.raise(state, at)),
         Err(ScopeFail::Memory) => Err(Stop::Memory),
+    }
+}
+
+/// `target := value`. The target is resolved first. 22004 where it takes no null and is given one.
+pub fn assign<P: Port, R: BodyRunner>(
+    calls: &Calls<'_, R>,
+    engine: &mut Engine,
+    port: &mut P,
+    at: Spot,
+    target: &Target,
+    e: &Expr,
+) -> Result<Outcome, Stop>
+    requires room { (world engine.old).steps ≤ calls.now.room }
+    requires fits { P.fits (world engine.old).last port.old }
+    requires runs { R.runs calls.now.bodies.now calls.now.room }
+    ensures is { Answers P.Port
+        (resolved (placing target.now e.now (world engine.old).database.objects
+        (world engine.old).frame.static) at (world engine.old) (λ p.
+        spec.assigned (runner_for do_bodies calls.now.room) at p (world engine.old))) result
+        engine.old engine.new port.old port.new }
+    ensures keeps { OnOk result (kept engine.new ≡ kept engine.old) }
+{
+    match stored_at_once(&*engine, target, e) {
+        Some(stored) => {
+            engine.set(stored.column, stored.value);
+            Ok(Outcome::Next)
+        }
+        None => assign_resolved(calls, engine, port, at, target, e),
     }
 }

@@ -10,13 +10,15 @@ ghost use Rattle.pl_world.specs.Statements.{runner_for};
 
 use crate::answers::value_of;
 use crate::converting::{as_bound, as_truth};
+use crate::direct::truth_at_once;
 use crate::values::value;
+use pl_base::Value;
 use pl_engine::{BodyRunner, Calls, Engine, Port, Spot, Stop};
 use pl_tree::Expr;
 use pl_world::Outcome;
 
-/// Whether a condition is true: a truth, never null. What is no boolean is read as one by its text.
-pub fn test<P: Port, R: BodyRunner>(
+// The condition is read as a value first.
+fn test_value<P: Port, R: BodyRunner>(
     calls: &Calls<'_, R>,
     engine: &mut Engine,
     port: &mut P,
@@ -35,6 +37,28 @@ pub fn test<P: Port, R: BodyRunner>(
     match value_of(answer) {
         Ok(v) => Ok(as_truth(engine, at, &v)?),
         Err(end) => Ok(end),
+    }
+}
+
+/// Whether a condition is true: a truth, never null. What is no boolean is read as one by its text.
+pub fn test<P: Port, R: BodyRunner>(
+    calls: &Calls<'_, R>,
+    engine: &mut Engine,
+    port: &mut P,
+    at: Spot,
+    e: &Expr,
+) -> Result<Outcome, Stop>
+    requires room { (world engine.old).steps ≤ calls.now.room }
+    requires fits { P.fits (world engine.old).last port.old }
+    requires runs { R.runs calls.now.bodies.now calls.now.room }
+    ensures is { Answers P.Port
+        (spec.tested (runner_for do_bodies calls.now.room) at e.now (world engine.old) truth) result
+        engine.old engine.new port.old port.new }
+    ensures keeps { OnOk result (kept engine.new ≡ kept engine.old) }
+{
+    match truth_at_once(&*engine, e) {
+        Some(holds) => Ok(Outcome::Return(Value::Bool(holds))),
+        None => test_value(calls, engine, port, at, e),
     }
 }
 

@@ -4,8 +4,9 @@ ghost use Rattle.std.specs.Prelude.{IfSome};
 ghost use Rattle.pl_asking.specs.Values as spec;
 ghost use Rattle.pl_engine.specs.Engines.{world};
 
-use pl_base::Value;
-use pl_direct::{Known, direct_value};
+use pl_base::{Ty, Value};
+use pl_bodies::Target;
+use pl_direct::{Known, Spot, direct_value, direct_variable};
 use pl_engine::Engine;
 use pl_tree::Expr;
 use std::marker::Model;
@@ -57,4 +58,73 @@ pub(crate) fn given_at_once(engine: &Engine, e: &Expr) -> Option<Value>
         }
         None => None,
     }
+}
+
+/// Whether a condition is true. None where that has to be resolved.
+pub(crate) fn truth_at_once(engine: &Engine, e: &Expr) -> Option<bool>
+    ensures { IfSome result (λ b. spec.TestedAtOnce e.now (world engine.now) b) }
+{
+    match known_at_once(engine, e)? {
+        Known::Bool(truth) => Some(truth),
+        Known::Int(_) | Known::Big(_) => None,
+    }
+}
+
+// ---- assignment
+
+/// A value for the variable of this place.
+#[derive(Drop)]
+pub(crate) struct Stored {
+    pub column: usize,
+    pub value: Value,
+}
+
+// The variable that a target names. None where it has a qualifier.
+fn aim_at_once<'a>(engine: &'a Engine, target: &Target) -> Option<Spot<'a>>
+    ensures { IfSome result (λ spot. spec.AimsAt target.now (world engine.now) spot) }
+{
+    match target.qualifier {
+        None => direct_variable(engine.declared().scope(), &target.name),
+        Some(_) => None,
+    }
+}
+
+// A number or a truth as one of this type. None where that is neither, or can't hold it.
+fn fitted(known: Known, ty: &Ty) -> Option<Value>
+    ensures { IfSome result (λ v. spec.Fits ty.now known v) }
+{
+    match known {
+        Known::Int(number) => match ty {
+            Ty::Int => Some(Value::Int(number)),
+            Ty::Big => Some(Value::Big(i64::from(number))),
+            _ => None,
+        },
+        Known::Big(number) => match ty {
+            Ty::Int => match i32::try_from(number) {
+                Ok(number) => Some(Value::Int(number)),
+                Err(_) => None,
+            },
+            Ty::Big => Some(Value::Big(number)),
+            _ => None,
+        },
+        Known::Bool(truth) => match ty {
+            Ty::Bool => Some(Value::Bool(truth)),
+            _ => None,
+        },
+    }
+}
+
+/// What an assignment gives to which variable. None where the target or the value has to be
+/// resolved.
+pub(crate) fn stored_at_once(engine: &Engine, target: &Target, e: &Expr) -> Option<Stored>
+    ensures { IfSome result (λ s. spec.AssignedAtOnce target.now e.now (world engine.now) s.column
+        s.value) }
+{
+    let spot = aim_at_once(engine, target)?;
+    let known = known_at_once(engine, e)?;
+    let value = fitted(known, &spot.seen.ty)?;
+    Some(Stored {
+        column: spot.column,
+        value,
+    })
 }
