@@ -8,4 +8,4 @@ use Rattle.pl_engine.specs.Engines.{world}
 pub returns-in-Bool : goal.returns-in-Bool
 returns-in-Bool c =
     let w = world c.args.engine.now in
-    tested_at_once c.args.e.now w c.in-Bool.truth (subst (λ (k : Known). DirectlyIs c.args.e.now w k) c.in-Bool.is c.in_ok-known_at_once.ensures)
+    tested_at_once c.args.e.now w c.in-Bool.truth (subst (λ (k : Known). DirectlyIs c.args.e.now w k) c.in-Bool.is c.in_ok-truth.ensures)
