@@ -1,6 +1,6 @@
 //! Variables by their names. Nothing of a variable is copied while they are sought.
 
-ghost use Rattle.std.specs.Prelude.{◌≡◌, ◌+◌, ◌<◌, ◌^◌, bytes_eq, false, is_some, length, IfSome};
+ghost use Rattle.std.specs.Prelude.{◌≡◌, ◌+◌, ◌<◌, ◌^◌, bytes_eq, false, is_some, length, true, IfSome};
 ghost use Rattle.pl_direct.specs.Search.{column_of, ty_of};
 ghost use Rattle.pl_names.specs.Names as spec;
 
@@ -39,23 +39,17 @@ fn same(a: &[u8], b: &[u8]) -> bool
     }
 }
 
-// One more variable, where it has the name. None where there is one already.
-fn also<'a>(
-    found: Option<Spot<'a>>,
-    is: bool,
-    column: usize,
-    seen: &'a Seen,
-) -> Option<Option<Spot<'a>>>
+// One more variable that has the name. None where there is one already.
+fn also<'a>(found: Option<Spot<'a>>, column: usize, seen: &'a Seen) -> Option<Option<Spot<'a>>>
     ensures { IfSome result (λ all.
         spec.here (is_some all) 0 (column_of all) (ty_of all) false
         ≡ spec.also
         (spec.here (is_some found.entry) 0 (column_of found.entry) (ty_of found.entry) false)
-        (spec.here is 0 column seen.now.ty false)) }
+        (spec.here true 0 column seen.now.ty false)) }
 {
-    match (found, is) {
-        (found, false) => Some(found),
-        (None, true) => Some(Some(Spot { column, seen })),
-        (Some(_), true) => None,
+    match found {
+        None => Some(Some(Spot { column, seen })),
+        Some(_) => None,
     }
 }
 
@@ -84,8 +78,9 @@ fn variables_named<'a>(name: &Name, place: usize, variables: &'a [Seen]) -> Opti
     let mut at = place;
     let mut rest = variables;
     while let [variable, more @ ..] = rest {
-        let is = same(variable.name.as_bytes(), wanted);
-        found = also(found, is, at, variable)?;
+        if same(variable.name.as_bytes(), wanted) {
+            found = also(found, at, variable)?;
+        }
         at += 1;
         rest = more;
     }
