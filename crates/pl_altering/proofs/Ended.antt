@@ -4,15 +4,15 @@ use Rattle.pl_altering.specs.Ends.{changes, done_from}
 use Rattle.pl_base.specs.declared.fail.Fail.{Fail}
 use Rattle.pl_base.specs.declared.state.State.{State}
 use Rattle.pl_bodies.specs.declared.simple.IntoClause.{IntoClause}
-use Rattle.pl_calling.proofs.Settled.{read_off, read_on, read_stops}
-use Rattle.pl_calling.specs.Ends.{settles}
-use Rattle.pl_engine.proofs.Joins.{Lawful, acted, becomes, ended, on, quietly, start, stopped, within}
-use Rattle.pl_engine.specs.Answers.{Done, Partway, Stopped}
-use Rattle.pl_engine.specs.Changing.{without_change}
-use Rattle.pl_engine.specs.Engines.{Kept, Quiet, kept, world}
-use Rattle.pl_engine.specs.declared.engine.Engine.{Engine}
-use Rattle.pl_engine.specs.declared.port.Port.{Ghosts}
-use Rattle.pl_engine.specs.declared.stop.Stop.{Stop}
+use Rattle.pl_querying.proofs.of_pl_calling.Settled.{read_off, read_on, read_stops}
+use Rattle.pl_querying.specs.pl_calling.Ends.{settles}
+use Rattle.pl_querying.proofs.of_pl_engine.Joins.{Lawful, acted, becomes, ended, on, quietly, start, stopped, within}
+use Rattle.pl_querying.specs.pl_engine.Answers.{Done, Partway, Stopped}
+use Rattle.pl_querying.specs.pl_engine.Changing.{without_change}
+use Rattle.pl_querying.specs.pl_engine.Engines.{Kept, Quiet, kept, world}
+use Rattle.pl_querying.specs.pl_engine.declared.engine.Engine.{Engine}
+use Rattle.pl_querying.specs.pl_engine.declared.port.Port.{Ghosts}
+use Rattle.pl_querying.specs.pl_engine.declared.stop.Stop.{Stop}
 use Rattle.pl_names.specs.Names.{Name}
 use Rattle.pl_targets.specs.declared.change.RChange.{RChange}
 use Rattle.pl_value.specs.Frames.{Row}

@@ -2,10 +2,10 @@
 use Rattle.std.proofs.Common.{◌≡◌, ◌<◌, ◌≤◌, ◌+◌, ◌∙◌, ℕ, Bool, true, false, cond, nat_eq, List, [], ◌∷◌, Option, Some, None, ap, arith, inl, inr, refl, sym}
 use Rattle.std.specs.Prelude.{if◌then◌else◌, option_map}
 use Rattle.pl_altering.specs.Entries.{AreEnoughFor, AreVisited, entry_found}
-use Rattle.pl_change.proofs.TurnedDown.{down, head_there, others_last}
-use Rattle.pl_change.specs.ByKey.{IsFound}
-use Rattle.pl_journal.proofs.Truths.{chained, equal_number, none_some, same_number, some_is, true_false}
-use Rattle.pl_journal.specs.Sound.{AreRows}
+use Rattle.pl_world.proofs.of_pl_change.TurnedDown.{down, head_there, others_last}
+use Rattle.pl_world.specs.pl_change.ByKey.{IsFound}
+use Rattle.pl_world.proofs.of_pl_journal.Truths.{chained, equal_number, none_some, same_number, some_is, true_false}
+use Rattle.pl_world.specs.pl_journal.Sound.{AreRows}
 use Rattle.pl_names.specs.Names.{Name}
 use Rattle.pl_product.specs.Product.{passes}
 use Rattle.pl_query.specs.Rows.{in_turn}

@@ -4,10 +4,10 @@ use Rattle.std.specs.Prelude.{option_map}
 use Rattle.pl_altering.specs.Settings.{ReadsOver, setting_over}
 use Rattle.pl_altering.specs.declared.command.Command.{Command}
 use Rattle.pl_base.specs.declared.state.State.{State}
-use Rattle.pl_calling.proofs.Overs.{agree, inside_agree}
-use Rattle.pl_calling.specs.Standing.{Standing, calls_kept, keep}
-use Rattle.pl_change.specs.Running.{copied}
-use Rattle.pl_change.specs.declared.at_start.Copies.{Copies}
+use Rattle.pl_querying.proofs.of_pl_calling.Overs.{agree, inside_agree}
+use Rattle.pl_querying.specs.pl_calling.Standing.{Standing, calls_kept, keep}
+use Rattle.pl_world.specs.pl_change.Running.{copied}
+use Rattle.pl_world.specs.pl_change.declared.at_start.Copies.{Copies}
 use Rattle.pl_natural.proofs.Parts.{passes_agrees, values_agree}
 use Rattle.pl_natural.proofs.Told.{told}
 use Rattle.pl_natural.proofs.Values.{each_agrees, value_agrees}

@@ -1,8 +1,8 @@
 -- Rows of RETURNING that go nowhere.
 use Rattle.std.proofs.Common.{◌≡◌, ◌↔◌, ◌∙◌, Bool, IsTrue, List, [], ◌∷◌, false, refl, subst, sym, true≢false}
 use Rattle.pl_base.specs.States.{SYNTAX_ERROR}
-use Rattle.pl_engine.specs.Engines.{Quiet, world}
-use Rattle.pl_engine.specs.declared.engine.Engine.{Engine}
+use Rattle.pl_querying.specs.pl_engine.Engines.{Quiet, world}
+use Rattle.pl_querying.specs.pl_engine.declared.engine.Engine.{Engine}
 use Rattle.pl_resolved.specs.declared.query.Head.{Head}
 use Rattle.pl_world.specs.Commands.{unless_returning}
 use Rattle.pl_world.specs.Errors.{Spot, raised}

@@ -5,7 +5,7 @@ use Rattle.pl_altering.specs.Settings.{ReadsOver}
 use Rattle.pl_altering.specs.declared.command.Command.{Command}
 use Rattle.pl_altering.specs.declared.keeping.Entry.{Entry}
 use Rattle.pl_base.specs.declared.state.State.{State}
-use Rattle.pl_calling.specs.Standing.{Standing, keep}
+use Rattle.pl_querying.specs.pl_calling.Standing.{Standing, keep}
 use Rattle.pl_natural.specs.Kept.{ReadsKept}
 use Rattle.pl_query.specs.Rows.{in_turn}
 use Rattle.pl_value.specs.Frames.{Row}

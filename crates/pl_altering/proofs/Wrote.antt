@@ -5,11 +5,11 @@ use Rattle.pl_altering.specs.Settings.{ReadsOver}
 use Rattle.pl_altering.specs.declared.command.Command.{Command}
 use Rattle.pl_base.specs.States.{TRIGGERED_DATA_CHANGE_VIOLATION}
 use Rattle.pl_base.specs.declared.state.State.{State}
-use Rattle.pl_calling.specs.Standing.{Standing, keep}
-use Rattle.pl_calling.specs.Writing.{WroteIn, in_world, without_row_in}
-use Rattle.pl_engine.specs.Changing.{Wrote}
-use Rattle.pl_engine.specs.Changing as engine
-use Rattle.pl_journal.specs.Writing.{written}
+use Rattle.pl_querying.specs.pl_calling.Standing.{Standing, keep}
+use Rattle.pl_querying.specs.pl_calling.Writing.{WroteIn, in_world, without_row_in}
+use Rattle.pl_querying.specs.pl_engine.Changing.{Wrote}
+use Rattle.pl_querying.specs.pl_engine.Changing as engine
+use Rattle.pl_world.specs.pl_journal.Writing.{written}
 use Rattle.pl_natural.specs.Kept.{ReadsKept}
 use Rattle.pl_names.specs.Names.{Name}
 use Rattle.pl_resolved.specs.declared.expression.RExpr.{RExpr}

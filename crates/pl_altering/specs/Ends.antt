@@ -1,7 +1,7 @@
 -- Changes, as they are answered.
 use Rattle.std.specs.Prelude.{List, [], ◌∷◌, Result}
 use Rattle.pl_base.specs.declared.fail.Fail.{Fail}
-use Rattle.pl_calling.specs.Ends.{settles}
+use Rattle.pl_querying.specs.pl_calling.Ends.{settles}
 use Rattle.pl_tables.specs.Named.{rows_named}
 use Rattle.pl_targets.specs.declared.change.RChange.{RChange}
 use Rattle.pl_value.specs.Frames.{Row}

@@ -1,7 +1,7 @@
 -- Rows of a table that are kept while it is changed.
 use Rattle.std.specs.Prelude.{◌≡◌, ◌⊎◌, ℕ, List, [], map, Option, Some, None}
 use Rattle.pl_altering.specs.declared.keeping.Entry.{Entry}
-use Rattle.pl_change.specs.ByKey.{IsFoundFor}
+use Rattle.pl_world.specs.pl_change.ByKey.{IsFoundFor}
 use Rattle.pl_names.specs.Names.{Name}
 use Rattle.pl_resolved.specs.declared.expression.RExpr.{RExpr}
 use Rattle.pl_tables.specs.Named.{Named, row_named, rows_named}

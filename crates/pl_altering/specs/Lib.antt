@@ -1,3 +1,4 @@
 pub mod Settings
 pub mod Entries
 pub mod Ends
+pub use Rattle.pl_targets.specs as pl_targets

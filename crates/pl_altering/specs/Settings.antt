@@ -1,10 +1,10 @@
 -- What the rows of a change share, and how what they read is answered.
 use Rattle.std.specs.Prelude.{◌≡◌, [], ◌∷◌, Result}
 use Rattle.pl_altering.specs.declared.command.Command.{Command}
-use Rattle.pl_calling.specs.Standing.{Standing, keep}
-use Rattle.pl_change.specs.Running.{copied}
-use Rattle.pl_change.specs.declared.at_start.Copies.{Copies}
-use Rattle.pl_engine.specs.Texts.{do_bodies}
+use Rattle.pl_querying.specs.pl_calling.Standing.{Standing, keep}
+use Rattle.pl_world.specs.pl_change.Running.{copied}
+use Rattle.pl_world.specs.pl_change.declared.at_start.Copies.{Copies}
+use Rattle.pl_querying.specs.pl_engine.Texts.{do_bodies}
 use Rattle.pl_natural.specs.Kept.{ReadsKept}
 use Rattle.pl_query.specs.Query.{rows}
 use Rattle.pl_query.specs.declared.within.Queries.{Queries}

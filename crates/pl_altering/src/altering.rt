@@ -1,9 +1,9 @@
 //! Changes as statements: PostgreSQL manual, "PL/pgSQL", "Executing SQL Commands".
 
 ghost use Rattle.std.specs.Prelude.{◌≡◌, ◌≤◌, length, IfOk, OnOk};
-ghost use Rattle.pl_engine.specs.Answers.{Answers};
-ghost use Rattle.pl_engine.specs.Engines.{Quiet, kept, world};
-ghost use Rattle.pl_engine.specs.Texts.{do_bodies};
+ghost use Rattle.pl_querying.specs.pl_engine.Answers.{Answers};
+ghost use Rattle.pl_querying.specs.pl_engine.Engines.{Quiet, kept, world};
+ghost use Rattle.pl_querying.specs.pl_engine.Texts.{do_bodies};
 ghost use Rattle.pl_world.specs.Commands as spec;
 ghost use Rattle.pl_world.specs.Statements as statements;
 ghost use Rattle.pl_world.specs.Statements.{runner_for};
@@ -13,8 +13,8 @@ use crate::changing::change;
 use crate::resolving::{Altering, resolve_into};
 use pl_base::{Cells, Memory, State};
 use pl_bodies::{Change, IntoClause};
-use pl_engine::{BodyRunner, Calls, Engine, Port, Spot, Stop};
 use pl_querying::into as put_into;
+use pl_querying::pl_engine::{BodyRunner, Calls, Engine, Port, Spot, Stop};
 use pl_typing::ScopeFail;
 use pl_world::Outcome;
 

@@ -1,10 +1,10 @@
 //! What SET makes of a row.
 
 ghost use Rattle.std.specs.Prelude.{◌≡◌, slice_set, IfOk};
-ghost use Rattle.pl_change.specs.Changes.{assigned};
+ghost use Rattle.pl_world.specs.pl_change.Changes.{assigned};
 
 use pl_base::{Cells, Value};
-use pl_change::copy_row;
+use pl_world::pl_change::copy_row;
 use std::alloc::{AllocError, Global};
 
 /// The row with these values in these columns.

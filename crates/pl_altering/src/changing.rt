@@ -3,10 +3,10 @@
 
 ghost use Rattle.std.specs.Prelude.{◌≡◌, ◌≤◌, OnOk};
 ghost use Rattle.pl_altering.specs.Ends.{changes, done_from};
-ghost use Rattle.pl_calling.specs.Ends.{settles};
-ghost use Rattle.pl_engine.specs.Answers.{Answers};
-ghost use Rattle.pl_engine.specs.Engines.{kept, world};
-ghost use Rattle.pl_engine.specs.Texts.{do_bodies};
+ghost use Rattle.pl_querying.specs.pl_calling.Ends.{settles};
+ghost use Rattle.pl_querying.specs.pl_engine.Answers.{Answers};
+ghost use Rattle.pl_querying.specs.pl_engine.Engines.{kept, world};
+ghost use Rattle.pl_querying.specs.pl_engine.Texts.{do_bodies};
 ghost use Rattle.pl_world.specs.Statements.{runner_for};
 
 use crate::command::{AROUND, Command};
@@ -14,11 +14,11 @@ use crate::keeping::rows_for;
 use crate::moment::Moment;
 use crate::running::run;
 use pl_base::{Cells, Fail, List};
-use pl_calling::{Calling, Start, copies_for, finish};
-use pl_change::copy_row;
-use pl_engine::{BodyRunner, Calls, Engine, Port, Spot, Stop};
 use pl_query::{Queries, Store};
+use pl_querying::pl_calling::{Calling, Start, copies_for, finish};
+use pl_querying::pl_engine::{BodyRunner, Calls, Engine, Port, Spot, Stop};
 use pl_targets::RChange;
+use pl_world::pl_change::copy_row;
 use std::marker::Brand;
 
 // The change, once it has begun. What its rows read is copied, and what its calls print is held and

@@ -1,10 +1,10 @@
 //! What the rows of a change share.
 
 use pl_base::Value;
-use pl_change::Copies;
-use pl_engine::Spot;
 use pl_query::{Queries, Store};
+use pl_querying::pl_engine::Spot;
 use pl_targets::RChange;
+use pl_world::pl_change::Copies;
 use std::alloc::Global;
 
 /// A change while it runs. The calls in it are made from this spot, with room for so many steps.

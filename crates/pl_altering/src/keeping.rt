@@ -3,21 +3,21 @@
 ghost use Rattle.std.specs.Prelude.{◌≡◌, ◌∷◌, ◌++◌, [], IfOk, OnOk};
 ghost use Rattle.std.specs.Option.{option_copied};
 ghost use Rattle.pl_altering.specs.Entries.{AreEnough, AreVisited, entries, entry_found};
-ghost use Rattle.pl_engine.specs.Engines.{world};
+ghost use Rattle.pl_querying.specs.pl_engine.Engines.{world};
 ghost use Rattle.pl_tables.specs.Named.{row_named, rows_named};
 ghost use Rattle.pl_tables.specs.Slots.{before, live};
 ghost use Rattle.pl_value.specs.Frames.{rows_of};
 ghost use Rattle.pl_world.specs.Changes as spec;
 
 use pl_base::{Boxed, Cells, Name, Value};
-use pl_change::{Candidates, candidates_for, copy_row};
-use pl_engine::Engine;
-use pl_journal::Journal;
 use pl_keys::is_same;
+use pl_querying::pl_engine::Engine;
 use pl_resolved::RExpr;
 use pl_tables::Slot;
 use pl_targets::{RChange, RWhat};
 use pl_value::Lent;
+use pl_world::pl_change::{Candidates, candidates_for, copy_row};
+use pl_world::pl_journal::Journal;
 use std::alloc::{AllocError, Global};
 
 /// A row of the table as it was when the change began.

@@ -16,3 +16,5 @@ mod showing;
 
 pub use altering::alter;
 pub use changing::change;
+pub use pl_querying;
+pub use pl_targets;

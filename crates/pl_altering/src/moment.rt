@@ -10,7 +10,7 @@ pub(crate) struct Moment;
 impl Model for Moment {
     ghost use Rattle.std.specs.Coded.{codes};
     ghost use Rattle.pl_base.specs.contracts.value.Value as value;
-    ghost use Rattle.pl_calling.specs.Standing.{nowhere};
+    ghost use Rattle.pl_querying.specs.pl_calling.Standing.{nowhere};
     ghost use Rattle.pl_catalog.specs.contracts.object.Object as object;
     ghost use Rattle.pl_world.specs.Calls.{Within};
     ghost use Rattle.pl_world.specs.Expressions.{begun};

@@ -11,8 +11,8 @@ ghost use Rattle.pl_world.specs.Changes as spec;
 
 use crate::command::{Command, Inside};
 use pl_base::{Boxed, Cells};
-use pl_calling::{Calling, Start};
-use pl_engine::BodyRunner;
+use pl_querying::pl_calling::{Calling, Start};
+use pl_querying::pl_engine::BodyRunner;
 use pl_resolved::RExpr;
 use pl_value::{Caller, Lent, Subqueries, Unsettled, passes, values};
 use std::alloc::Global;

@@ -2,16 +2,16 @@
 //! Substitution".
 
 ghost use Rattle.std.specs.Prelude.{◌≡◌};
-ghost use Rattle.pl_engine.specs.Engines.{world};
+ghost use Rattle.pl_querying.specs.pl_engine.Engines.{world};
 ghost use Rattle.pl_typing.specs.Resolved.{Gives};
 ghost use Rattle.pl_world.specs.Commands.{altering};
 ghost use Rattle.pl_world.specs.Resolving.{changing};
 ghost use Rattle.pl_world.specs.Statements.{targets_in};
 
-use pl_asking::{Variable, aim_all};
 use pl_base::{Held, List};
 use pl_bodies::{Change, IntoClause, Target};
-use pl_engine::Engine;
+use pl_querying::pl_asking::{Variable, aim_all};
+use pl_querying::pl_engine::Engine;
 use pl_targets::{RChange, resolve_delete, resolve_insert, resolve_update};
 use pl_typing::ScopeFail;
 use std::marker::Model;

@@ -3,9 +3,9 @@
 ghost use Rattle.std.specs.Prelude.{Some, if◌then◌else◌};
 ghost use Rattle.pl_altering.specs.Entries.{entry_of};
 ghost use Rattle.pl_altering.specs.Settings.{ReadsOver, setting_over};
-ghost use Rattle.pl_calling.specs.Writing.{WroteIn};
-ghost use Rattle.pl_change.specs.Running.{HasRow};
-ghost use Rattle.pl_journal.specs.Writing.{written};
+ghost use Rattle.pl_querying.specs.pl_calling.Writing.{WroteIn};
+ghost use Rattle.pl_world.specs.pl_change.Running.{HasRow};
+ghost use Rattle.pl_world.specs.pl_journal.Writing.{written};
 ghost use Rattle.pl_value.specs.Frames.{rows_of};
 ghost use Rattle.pl_value.specs.Reading.{got};
 ghost use Rattle.pl_world.specs.Changes as spec;
@@ -16,9 +16,9 @@ use crate::keeping::{Entry, is_still};
 use crate::reading::{read_if, read_row, read_where};
 use crate::showing::{copy_for, show};
 use pl_base::{Boxed, Cells, State, Value};
-use pl_calling::{Calling, Start};
-use pl_engine::BodyRunner;
 use pl_query::Rows;
+use pl_querying::pl_calling::{Calling, Start};
+use pl_querying::pl_engine::BodyRunner;
 use pl_resolved::RExpr;
 use pl_value::{Lent, Unsettled};
 

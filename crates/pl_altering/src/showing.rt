@@ -3,7 +3,7 @@
 ghost use Rattle.std.specs.Prelude.{◌≡◌, ◌∷◌, ◌++◌, [], List, IfOk};
 ghost use Rattle.pl_altering.specs.Settings.{ReadsOver, setting_over};
 ghost use Rattle.pl_altering.specs.declared.command.Command as running;
-ghost use Rattle.pl_calling.specs.Standing.{Standing};
+ghost use Rattle.pl_querying.specs.pl_calling.Standing.{Standing};
 ghost use Rattle.pl_resolved.specs.declared.expression.RExpr as tree;
 ghost use Rattle.pl_value.specs.Reading.{got};
 ghost use Rattle.pl_world.specs.Changes as spec;
@@ -11,12 +11,12 @@ ghost use Rattle.pl_world.specs.Changes as spec;
 use crate::command::{Command, Inside};
 use crate::reading::read_row;
 use pl_base::{Cells, List, Value};
-use pl_calling::{Calling, Start};
-use pl_change::copy_row;
-use pl_engine::BodyRunner;
 use pl_query::Rows;
+use pl_querying::pl_calling::{Calling, Start};
+use pl_querying::pl_engine::BodyRunner;
 use pl_resolved::RExpr;
 use pl_value::{Lent, Unsettled};
+use pl_world::pl_change::copy_row;
 use std::alloc::{AllocError, Global};
 
 // One row of RETURNING more.

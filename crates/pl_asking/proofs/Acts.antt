@@ -10,12 +10,12 @@ use Rattle.pl_base.specs.declared.value.Value.{Value}
 use Rattle.pl_base.specs.declared.value.Value.TheVariants.{Big, Bool as Truth}
 use Rattle.pl_bodies.specs.declared.simple.Target.{Target}
 use Rattle.pl_calc.specs.Answer.{Answer}
-use Rattle.pl_engine.proofs.Joins.{behind_behind, behind_none, outward-append, stepped_in-append}
-use Rattle.pl_engine.specs.Asks.{truth}
-use Rattle.pl_engine.specs.Engines.{Quiet, stepped_in, world}
-use Rattle.pl_engine.specs.declared.engine.Engine.{Engine}
+use Rattle.pl_calling.proofs.of_pl_engine.Joins.{behind_behind, behind_none, outward-append, stepped_in-append}
+use Rattle.pl_calling.specs.pl_engine.Asks.{truth}
+use Rattle.pl_calling.specs.pl_engine.Engines.{Quiet, stepped_in, world}
+use Rattle.pl_calling.specs.pl_engine.declared.engine.Engine.{Engine}
 use Rattle.pl_flow.proofs.Sequences.{resolved_seq}
-use Rattle.pl_names.specs.Names.{Name}
+use Rattle.pl_calling.specs.pl_names.Names.{Name}
 use Rattle.pl_typing.specs.Resolved.{Resolved}
 use Rattle.pl_value.specs.Combined.{is_true}
 use Rattle.pl_value.specs.Frames.{Row}

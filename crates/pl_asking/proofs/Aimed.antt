@@ -5,13 +5,13 @@ use Rattle.pl_base.specs.declared.state.State.{State}
 use Rattle.pl_bodies.specs.declared.simple.Target.{Target}
 use Rattle.pl_catalog.specs.declared.object.Object.{Object}
 use Rattle.pl_base.specs.declared.types.Ty.{Ty}
-use Rattle.pl_names.specs.Names.{Around}
+use Rattle.pl_calling.specs.pl_names.Names.{Around}
 use Rattle.pl_resolved.specs.declared.expression.RExpr.TheVariants.{Place}
-use Rattle.pl_scope.specs.Answers.{Answer, Meets, got, settled, then_answer}
-use Rattle.pl_scope.specs.Expressions.{listed_on}
-use Rattle.pl_scope.specs.Resolution.{as_expr, nothing_made, part, standing}
-use Rattle.pl_scope.specs.declared.made.Made.{Made}
-use Rattle.pl_scope.specs.declared.resolve.ResolvedExpr.{ResolvedExpr}
+use Rattle.pl_direct.specs.pl_scope.Answers.{Answer, Meets, got, settled, then_answer}
+use Rattle.pl_direct.specs.pl_scope.Expressions.{listed_on}
+use Rattle.pl_direct.specs.pl_scope.Resolution.{as_expr, nothing_made, part, standing}
+use Rattle.pl_direct.specs.pl_scope.declared.made.Made.{Made}
+use Rattle.pl_direct.specs.pl_scope.declared.resolve.ResolvedExpr.{ResolvedExpr}
 use Rattle.pl_tree.specs.declared.tree.Expr.{Expr}
 use Rattle.pl_typing.specs.Resolved.{Gives, Resolved, ◌>>=◌}
 use Rattle.pl_typing.specs.Typing.{typed}

@@ -15,13 +15,13 @@ use Rattle.pl_direct.specs.Search.{StandsFor, meaning_of}
 use Rattle.pl_direct.specs.declared.known.Known.{Known}
 use Rattle.pl_direct.specs.declared.known.Known.TheVariants.{Bool as Truth}
 use Rattle.pl_direct.specs.declared.search.Spot as found
-use Rattle.pl_engine.specs.Asks.{returned}
+use Rattle.pl_calling.specs.pl_engine.Asks.{returned}
 use Rattle.pl_flow.proofs.Sequences.{behind_none}
-use Rattle.pl_names.specs.Names.{Name, name_means}
-use Rattle.pl_names.specs.declared.found.Meaning.{Meaning}
-use Rattle.pl_names.specs.declared.scope.Scope.{Scope}
-use Rattle.pl_scope.specs.Resolution.{standing}
-use Rattle.pl_scope.specs.declared.resolve.ResolvedExpr.{ResolvedExpr}
+use Rattle.pl_calling.specs.pl_names.Names.{Name, name_means}
+use Rattle.pl_calling.specs.pl_names.declared.found.Meaning.{Meaning}
+use Rattle.pl_calling.specs.pl_names.declared.scope.Scope.{Scope}
+use Rattle.pl_direct.specs.pl_scope.Resolution.{standing}
+use Rattle.pl_direct.specs.pl_scope.declared.resolve.ResolvedExpr.{ResolvedExpr}
 use Rattle.pl_tree.specs.declared.tree.Expr.{Expr}
 use Rattle.pl_typing.specs.Resolved.{Resolved, ◌>>=◌}
 use Rattle.pl_value.specs.Reading.{Reading}

@@ -8,15 +8,15 @@ use Rattle.pl_base.specs.declared.types.Ty.{Ty}
 use Rattle.pl_base.specs.declared.value.Value.{Value}
 use Rattle.pl_bodies.specs.declared.statement.CaseArm.{CaseArm, out-CaseArm}
 use Rattle.pl_bodies.specs.declared.statement.Otherwise.{Otherwise}
-use Rattle.pl_engine.proofs.Joins.{Lawful, becomes, start}
-use Rattle.pl_engine.specs.Answers.{Partway}
-use Rattle.pl_engine.specs.Asks.{returned}
-use Rattle.pl_engine.specs.Engines.{world}
-use Rattle.pl_engine.specs.declared.engine.Engine.{Engine}
-use Rattle.pl_engine.specs.declared.port.Port.{Ghosts}
+use Rattle.pl_calling.proofs.of_pl_engine.Joins.{Lawful, becomes, start}
+use Rattle.pl_calling.specs.pl_engine.Answers.{Partway}
+use Rattle.pl_calling.specs.pl_engine.Asks.{returned}
+use Rattle.pl_calling.specs.pl_engine.Engines.{world}
+use Rattle.pl_calling.specs.pl_engine.declared.engine.Engine.{Engine}
+use Rattle.pl_calling.specs.pl_engine.declared.port.Port.{Ghosts}
 use Rattle.pl_flow.proofs.Asked.{on_truth}
 use Rattle.pl_flow.proofs.Sequences.{behind_none, read_seq, resolved_seq}
-use Rattle.pl_scope.specs.declared.resolve.ResolvedExpr.{ResolvedExpr}
+use Rattle.pl_direct.specs.pl_scope.declared.resolve.ResolvedExpr.{ResolvedExpr}
 use Rattle.pl_tree.specs.declared.tree.Expr.{Expr}
 use Rattle.pl_typing.specs.Typing.{as_text_type}
 use Rattle.pl_value.specs.Combined.{is_true}

@@ -8,16 +8,16 @@ use Rattle.pl_base.specs.declared.value.Value.{Value}
 use Rattle.pl_base.specs.declared.value.Value.TheVariants.{Null}
 use Rattle.pl_bodies.specs.declared.simple.Target.{Target}
 use Rattle.pl_bodies.specs.declared.declaration.VariableType.{VariableType}
-use Rattle.pl_engine.proofs.Joins.{Lawful, becomes, start}
-use Rattle.pl_engine.specs.Answers.{Partway}
-use Rattle.pl_engine.specs.Asks.{number, returned, truth}
-use Rattle.pl_engine.specs.Engines.{world}
-use Rattle.pl_engine.specs.declared.engine.Engine.{Engine}
-use Rattle.pl_engine.specs.declared.port.Port.{Ghosts}
+use Rattle.pl_calling.proofs.of_pl_engine.Joins.{Lawful, becomes, start}
+use Rattle.pl_calling.specs.pl_engine.Answers.{Partway}
+use Rattle.pl_calling.specs.pl_engine.Asks.{number, returned, truth}
+use Rattle.pl_calling.specs.pl_engine.Engines.{world}
+use Rattle.pl_calling.specs.pl_engine.declared.engine.Engine.{Engine}
+use Rattle.pl_calling.specs.pl_engine.declared.port.Port.{Ghosts}
 use Rattle.pl_flow.proofs.Asked.{by}
 use Rattle.pl_flow.proofs.Sequences.{behind_none, evaluated_seq, resolved_seq}
-use Rattle.pl_names.specs.Names.{Name}
-use Rattle.pl_scope.specs.declared.resolve.ResolvedExpr.{ResolvedExpr}
+use Rattle.pl_calling.specs.pl_names.Names.{Name}
+use Rattle.pl_direct.specs.pl_scope.declared.resolve.ResolvedExpr.{ResolvedExpr}
 use Rattle.pl_tree.specs.declared.tree.Expr.{Expr}
 use Rattle.pl_typing.specs.Resolved.{Resolved, ◌>>=◌}
 use Rattle.pl_world.specs.Assigning.{assigned, kept_if, put, takes}

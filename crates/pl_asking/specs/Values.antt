@@ -10,7 +10,7 @@ use Rattle.pl_direct.specs.Direct.{Directly}
 use Rattle.pl_direct.specs.Known.{value_of as known_value}
 use Rattle.pl_direct.specs.declared.known.Known.{Known}
 use Rattle.pl_direct.specs.declared.search.Spot as found
-use Rattle.pl_engine.specs.Asks.{returned, truth}
+use Rattle.pl_calling.specs.pl_engine.Asks.{returned, truth}
 use Rattle.pl_bodies.specs.declared.simple.Target.{Target}
 use Rattle.pl_tree.specs.declared.tree.Expr.{Expr}
 use Rattle.pl_value.specs.Frames.{Row}

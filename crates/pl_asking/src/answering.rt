@@ -1,15 +1,15 @@
 //! What statements have their expressions asked.
 
 ghost use Rattle.std.specs.Prelude.{◌≡◌, ◌≤◌, OnOk};
-ghost use Rattle.pl_engine.specs.Answers.{Answers};
-ghost use Rattle.pl_engine.specs.Asks.{asked};
-ghost use Rattle.pl_engine.specs.Engines.{kept, world};
-ghost use Rattle.pl_engine.specs.Texts.{do_bodies};
+ghost use Rattle.pl_calling.specs.pl_engine.Answers.{Answers};
+ghost use Rattle.pl_calling.specs.pl_engine.Asks.{asked};
+ghost use Rattle.pl_calling.specs.pl_engine.Engines.{kept, world};
+ghost use Rattle.pl_calling.specs.pl_engine.Texts.{do_bodies};
 ghost use Rattle.pl_world.specs.Statements.{runner_for};
 
 use crate::conditions::{bound, test};
 use crate::declaring::declare;
-use pl_engine::{Ask, BodyRunner, Calls, Engine, Port, Spot, Stop};
+use pl_calling::pl_engine::{Ask, BodyRunner, Calls, Engine, Port, Spot, Stop};
 use pl_world::Outcome;
 
 /// What the statement at this spot asks.

@@ -1,9 +1,9 @@
 //! Assignment: PostgreSQL manual, "PL/pgSQL", "Assignment".
 
 ghost use Rattle.std.specs.Prelude.{◌≡◌, ◌≤◌, OnOk};
-ghost use Rattle.pl_engine.specs.Answers.{Answers};
-ghost use Rattle.pl_engine.specs.Engines.{kept, world};
-ghost use Rattle.pl_engine.specs.Texts.{do_bodies};
+ghost use Rattle.pl_calling.specs.pl_engine.Answers.{Answers};
+ghost use Rattle.pl_calling.specs.pl_engine.Engines.{kept, world};
+ghost use Rattle.pl_calling.specs.pl_engine.Texts.{do_bodies};
 ghost use Rattle.pl_world.specs.Assigning as spec;
 ghost use Rattle.pl_world.specs.Errors.{resolved};
 ghost use Rattle.pl_world.specs.Resolving.{placing, reading};
@@ -16,7 +16,7 @@ use crate::resolving::aim;
 use crate::values::value;
 use crate::variable::Variable;
 use pl_bodies::Target;
-use pl_engine::{BodyRunner, Calls, Engine, Port, Spot, Stop};
+use pl_calling::pl_engine::{BodyRunner, Calls, Engine, Port, Spot, Stop};
 use pl_tree::Expr;
 use pl_typing::ScopeFail;
 use pl_world::Outcome;

@@ -2,10 +2,10 @@
 
 ghost use Rattle.std.specs.Prelude.{◌≡◌, ◌≤◌, OnOk, Some};
 ghost use Rattle.pl_asking.specs.Values.{read_match};
-ghost use Rattle.pl_engine.specs.Answers.{Answers};
-ghost use Rattle.pl_engine.specs.Engines.{kept, world};
-ghost use Rattle.pl_engine.specs.Runs.{Runs};
-ghost use Rattle.pl_engine.specs.Texts.{do_bodies};
+ghost use Rattle.pl_calling.specs.pl_engine.Answers.{Answers};
+ghost use Rattle.pl_calling.specs.pl_engine.Engines.{kept, world};
+ghost use Rattle.pl_calling.specs.pl_engine.Runs.{Runs};
+ghost use Rattle.pl_calling.specs.pl_engine.Texts.{do_bodies};
 ghost use Rattle.pl_typing.specs.Typing as typing;
 ghost use Rattle.pl_world.specs.Control as spec;
 ghost use Rattle.pl_world.specs.Expressions.{evaluated};
@@ -15,10 +15,10 @@ use crate::answers::value_of;
 use crate::resolving::{find, read};
 use pl_base::{Boxed, Ty, Value};
 use pl_bodies::{CaseArm, Otherwise};
+use pl_calling::pl_engine::{BodyRunner, Calls, Engine, Port, Runner, Spot, Stop, Task, all};
 use pl_calling::{evaluate, evaluate_beside};
-use pl_engine::{BodyRunner, Calls, Engine, Port, Runner, Spot, Stop, Task, all};
+use pl_direct::pl_scope::ResolvedExpr;
 use pl_flow::{not_found, truth_of};
-use pl_scope::ResolvedExpr;
 use pl_tree::Expr;
 use pl_typing::{ScopeFail, as_text_type};
 use pl_world::Outcome;

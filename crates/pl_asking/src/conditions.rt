@@ -1,10 +1,10 @@
 //! Conditions, and the bounds of FOR.
 
 ghost use Rattle.std.specs.Prelude.{◌≡◌, ◌≤◌, OnOk};
-ghost use Rattle.pl_engine.specs.Answers.{Answers};
-ghost use Rattle.pl_engine.specs.Asks.{number, truth};
-ghost use Rattle.pl_engine.specs.Engines.{kept, world};
-ghost use Rattle.pl_engine.specs.Texts.{do_bodies};
+ghost use Rattle.pl_calling.specs.pl_engine.Answers.{Answers};
+ghost use Rattle.pl_calling.specs.pl_engine.Asks.{number, truth};
+ghost use Rattle.pl_calling.specs.pl_engine.Engines.{kept, world};
+ghost use Rattle.pl_calling.specs.pl_engine.Texts.{do_bodies};
 ghost use Rattle.pl_world.specs.Control as spec;
 ghost use Rattle.pl_world.specs.Statements.{runner_for};
 
@@ -13,7 +13,7 @@ use crate::converting::{as_bound, as_truth};
 use crate::direct::truth_at_once;
 use crate::values::value;
 use pl_base::Value;
-use pl_engine::{BodyRunner, Calls, Engine, Port, Spot, Stop};
+use pl_calling::pl_engine::{BodyRunner, Calls, Engine, Port, Spot, Stop};
 use pl_tree::Expr;
 use pl_world::Outcome;
 

@@ -2,16 +2,16 @@
 
 ghost use Rattle.std.specs.Prelude.{IfOk};
 ghost use Rattle.pl_base.specs.declared.types.Ty.TheVariants.{Int as Integer};
-ghost use Rattle.pl_engine.specs.Asks.{number, truth};
-ghost use Rattle.pl_engine.specs.Engines.{Quiet, world};
+ghost use Rattle.pl_calling.specs.pl_engine.Asks.{number, truth};
+ghost use Rattle.pl_calling.specs.pl_engine.Engines.{Quiet, world};
 ghost use Rattle.pl_world.specs.Control.{as_number};
 ghost use Rattle.pl_world.specs.Conversions as spec;
 ghost use Rattle.pl_world.specs.Errors as errors;
 
 use pl_base::{Memory, State, Ty, Value};
 use pl_calc::CalcFail;
+use pl_calling::pl_engine::{Engine, Spot};
 use pl_calling::{convert, run_state};
-use pl_engine::{Engine, Spot};
 use pl_flow::is_true;
 use pl_world::Outcome;
 

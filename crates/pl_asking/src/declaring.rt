@@ -1,9 +1,9 @@
 //! Declarations: PostgreSQL manual, "PL/pgSQL", "Declarations".
 
 ghost use Rattle.std.specs.Prelude.{◌≡◌, ◌≤◌, IfOk, OnOk};
-ghost use Rattle.pl_engine.specs.Answers.{Answers};
-ghost use Rattle.pl_engine.specs.Engines.{Quiet, kept, world};
-ghost use Rattle.pl_engine.specs.Texts.{do_bodies};
+ghost use Rattle.pl_calling.specs.pl_engine.Answers.{Answers};
+ghost use Rattle.pl_calling.specs.pl_engine.Engines.{Quiet, kept, world};
+ghost use Rattle.pl_calling.specs.pl_engine.Texts.{do_bodies};
 ghost use Rattle.pl_world.specs.Assigning as assigning;
 ghost use Rattle.pl_world.specs.Blocks as spec;
 ghost use Rattle.pl_world.specs.Conversions.{as_type};
@@ -20,7 +20,7 @@ use pl_base::{Boxed, Memory, Name, State, Ty, Value};
 use pl_bodies::{Declaration, DeclarationKind};
 use pl_calc::CalcFail;
 use pl_calling::convert;
-use pl_engine::{BodyRunner, Calls, Engine, Port, Spot, Stop};
+use pl_calling::pl_engine::{BodyRunner, Calls, Engine, Port, Spot, Stop};
 use pl_tree::Expr;
 use pl_typing::ScopeFail;
 use pl_world::Outcome;

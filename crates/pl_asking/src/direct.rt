@@ -2,12 +2,12 @@
 
 ghost use Rattle.std.specs.Prelude.{IfSome};
 ghost use Rattle.pl_asking.specs.Values as spec;
-ghost use Rattle.pl_engine.specs.Engines.{world};
+ghost use Rattle.pl_calling.specs.pl_engine.Engines.{world};
 
 use pl_base::{Ty, Value};
 use pl_bodies::Target;
+use pl_calling::pl_engine::Engine;
 use pl_direct::{Known, Spot, direct_value, direct_variable};
-use pl_engine::Engine;
 use pl_tree::Expr;
 use std::marker::Model;
 

@@ -3,7 +3,7 @@
 
 ghost use Rattle.std.specs.Prelude.{◌≡◌, drop, IfOk};
 ghost use Rattle.pl_asking.specs.Values.{first_or_null, put_in};
-ghost use Rattle.pl_engine.specs.Engines.{Quiet, kept, world};
+ghost use Rattle.pl_calling.specs.pl_engine.Engines.{Quiet, kept, world};
 ghost use Rattle.pl_world.specs.Assigning as spec;
 ghost use Rattle.pl_world.specs.Variables.{with_value};
 
@@ -14,7 +14,7 @@ use pl_base::{Memory, State, Value};
 use pl_bodies::Target;
 use pl_calc::CalcFail;
 use pl_calling::convert;
-use pl_engine::{Engine, Spot};
+use pl_calling::pl_engine::{Engine, Spot};
 use pl_typing::ScopeFail;
 use pl_world::Outcome;
 

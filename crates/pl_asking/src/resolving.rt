@@ -2,13 +2,13 @@
 //! Substitution".
 
 ghost use Rattle.std.specs.Prelude.{◌≡◌, [], map, IfOk};
-ghost use Rattle.pl_engine.specs.Engines.{world};
-ghost use Rattle.pl_names.specs.Names as meanings;
-ghost use Rattle.pl_names.specs.Names.{around};
+ghost use Rattle.pl_calling.specs.pl_engine.Engines.{world};
+ghost use Rattle.pl_calling.specs.pl_names.Names as meanings;
+ghost use Rattle.pl_calling.specs.pl_names.Names.{around};
 ghost use Rattle.pl_resolved.specs.declared.expression.RExpr.TheVariants.{Place};
-ghost use Rattle.pl_scope.specs.Answers.{Meets};
-ghost use Rattle.pl_scope.specs.Expressions as scope;
-ghost use Rattle.pl_scope.specs.Resolution.{part, standing};
+ghost use Rattle.pl_direct.specs.pl_scope.Answers.{Meets};
+ghost use Rattle.pl_direct.specs.pl_scope.Expressions as scope;
+ghost use Rattle.pl_direct.specs.pl_scope.Resolution.{part, standing};
 ghost use Rattle.pl_typing.specs.Resolved.{Gives};
 ghost use Rattle.pl_typing.specs.Typing as typing;
 ghost use Rattle.pl_world.specs.Resolving as spec;
@@ -17,10 +17,10 @@ ghost use Rattle.pl_world.specs.Variables.{variables_of};
 use crate::variable::Variable;
 use pl_base::{Held, List, Memory, Name, State, Ty};
 use pl_bodies::{Target, VariableType};
-use pl_engine::Engine;
-use pl_names::{Level, Meaning, Names, Visible, name_means, qualified_means};
+use pl_calling::pl_engine::Engine;
+use pl_calling::pl_names::{Level, Meaning, Names, Visible, name_means, qualified_means};
+use pl_direct::pl_scope::{Made, ResolvedExpr, behind, expr, inside, resolve_expr};
 use pl_resolved::RExpr;
-use pl_scope::{Made, ResolvedExpr, behind, expr, inside, resolve_expr};
 use pl_tree::Expr;
 use pl_typing::{Listed, ScopeFail, Typed, in_list, with_type};
 use std::alloc::Global;

@@ -2,11 +2,11 @@
 
 ghost use Rattle.std.specs.Prelude.{◌≡◌, ◌≤◌, OnOk};
 ghost use Rattle.pl_asking.specs.Values as spec;
-ghost use Rattle.pl_engine.specs.Answers.{Answers};
-ghost use Rattle.pl_engine.specs.Asks.{returned};
-ghost use Rattle.pl_engine.specs.Engines.{kept, world};
-ghost use Rattle.pl_engine.specs.Texts.{do_bodies};
-ghost use Rattle.pl_scope.specs.declared.resolve.ResolvedExpr as scope;
+ghost use Rattle.pl_calling.specs.pl_engine.Answers.{Answers};
+ghost use Rattle.pl_calling.specs.pl_engine.Asks.{returned};
+ghost use Rattle.pl_calling.specs.pl_engine.Engines.{kept, world};
+ghost use Rattle.pl_calling.specs.pl_engine.Texts.{do_bodies};
+ghost use Rattle.pl_direct.specs.pl_scope.declared.resolve.ResolvedExpr as scope;
 ghost use Rattle.pl_typing.specs.Resolved.{Gives, Resolved};
 ghost use Rattle.pl_world.specs.Control as control;
 ghost use Rattle.pl_world.specs.Errors.{resolved};
@@ -17,8 +17,8 @@ use crate::direct::{given_at_once, value_at_once};
 use crate::resolving::{give, read};
 use pl_base::{Boxed, Held, Value};
 use pl_calling::evaluate;
-use pl_engine::{BodyRunner, Calls, Engine, Port, Spot, Stop};
-use pl_scope::ResolvedExpr;
+use pl_calling::pl_engine::{BodyRunner, Calls, Engine, Port, Spot, Stop};
+use pl_direct::pl_scope::ResolvedExpr;
 use pl_tree::Expr;
 use pl_typing::ScopeFail;
 use pl_world::Outcome;

@@ -1,1 +1,2 @@
 pub mod Assigning
+pub use Rattle.pl_typing.specs as pl_typing

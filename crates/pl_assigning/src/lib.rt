@@ -4,3 +4,4 @@
 mod assigning;
 
 pub use assigning::assigned;
+pub use pl_typing;

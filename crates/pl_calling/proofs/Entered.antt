@@ -19,14 +19,14 @@ use Rattle.pl_engine.specs.Texts.{do_bodies}
 use Rattle.pl_engine.specs.contracts.held.HeldPort.TheImpl.{ghosts}
 use Rattle.pl_engine.specs.declared.engine.Engine.{Engine}
 use Rattle.pl_engine.specs.declared.port.Port.{Ghosts}
-use Rattle.pl_world.specs.Calls.{Callee, called, called_by_name, called_if, callee_of, can_be_called, entered, given, left, most_calls, popped, popped_by}
-use Rattle.pl_world.specs.Conversions.{as_type, converted, settled}
-use Rattle.pl_world.specs.Errors.{Spot, as_run_state, raised}
-use Rattle.pl_world.specs.Running.{Runner, body, spot_of}
-use Rattle.pl_world.specs.Statements.{run_within, runner_for}
-use Rattle.pl_world.specs.World.{Frame, Ran, World, and_then, ends}
-use Rattle.pl_world.specs.declared.outcome.Outcome.{Outcome}
-use Rattle.pl_world.specs.declared.outcome.Outcome.TheVariants as outcome
+use Rattle.pl_engine.specs.pl_world.Calls.{Callee, called, called_by_name, called_if, callee_of, can_be_called, entered, given, left, most_calls, popped, popped_by}
+use Rattle.pl_engine.specs.pl_world.Conversions.{as_type, converted, settled}
+use Rattle.pl_engine.specs.pl_world.Errors.{Spot, as_run_state, raised}
+use Rattle.pl_engine.specs.pl_world.Running.{Runner, body, spot_of}
+use Rattle.pl_engine.specs.pl_world.Statements.{run_within, runner_for}
+use Rattle.pl_engine.specs.pl_world.World.{Frame, Ran, World, and_then, ends}
+use Rattle.pl_engine.specs.pl_world.declared.outcome.Outcome.{Outcome}
+use Rattle.pl_engine.specs.pl_world.declared.outcome.Outcome.TheVariants as outcome
 
 -- ---- a call is entered, and gone
 

@@ -9,21 +9,21 @@ use Rattle.pl_engine.proofs.Joins.{outward-append, stepped_in-append}
 use Rattle.pl_engine.specs.Engines.{Kept, stepped_in}
 use Rattle.pl_engine.specs.Holding.{HoldsMore, said}
 use Rattle.pl_engine.specs.Texts.{do_bodies}
-use Rattle.pl_world.specs.Trace as trace
-use Rattle.pl_world.specs.Trace.{last_commit}
+use Rattle.pl_engine.specs.pl_world.Trace as trace
+use Rattle.pl_engine.specs.pl_world.Trace.{last_commit}
 use Rattle.pl_natural.specs.Kept.{ReadsKept, kept}
 use Rattle.pl_undo.specs.Database.{Database}
 use Rattle.pl_value.specs.Reading.{Reading, got, fails}
 use Rattle.pl_value.specs.declared.operand.Unsettled.TheVariants.{Fails}
-use Rattle.pl_world.specs.Calls.{Within, answered, called_by_name, calls, void, within}
-use Rattle.pl_world.specs.Errors.{Spot, as_run_state}
-use Rattle.pl_world.specs.Errors.{failure as arises}
-use Rattle.pl_world.specs.Expressions.{reads}
-use Rattle.pl_world.specs.Scripts.{outward}
-use Rattle.pl_world.specs.Statements.{runner_for}
-use Rattle.pl_world.specs.World.{Event, Raised, Ran, World, made}
-use Rattle.pl_world.specs.declared.outcome.Outcome.{Outcome}
-use Rattle.pl_world.specs.declared.outcome.Outcome.TheVariants as outcome
+use Rattle.pl_engine.specs.pl_world.Calls.{Within, answered, called_by_name, calls, void, within}
+use Rattle.pl_engine.specs.pl_world.Errors.{Spot, as_run_state}
+use Rattle.pl_engine.specs.pl_world.Errors.{failure as arises}
+use Rattle.pl_engine.specs.pl_world.Expressions.{reads}
+use Rattle.pl_engine.specs.pl_world.Scripts.{outward}
+use Rattle.pl_engine.specs.pl_world.Statements.{runner_for}
+use Rattle.pl_engine.specs.pl_world.World.{Event, Raised, Ran, World, made}
+use Rattle.pl_engine.specs.pl_world.declared.outcome.Outcome.{Outcome}
+use Rattle.pl_engine.specs.pl_world.declared.outcome.Outcome.TheVariants as outcome
 
 -- ---- calls
 

@@ -4,7 +4,7 @@ use Rattle.std.specs.List.{list_any}
 use Rattle.std.specs.Prelude.{bytes_eq}
 use Rattle.pl_base.specs.States.{INTERNAL_ERROR}
 use Rattle.pl_base.specs.declared.state.State.{State}
-use Rattle.pl_world.specs.Errors.{as_run_state, decided_by_types}
+use Rattle.pl_engine.specs.pl_world.Errors.{as_run_state, decided_by_types}
 
 -- none of them passes
 abbrev pub NonePasses : (State → Bool) → List State → Type 0

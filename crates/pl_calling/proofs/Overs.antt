@@ -6,30 +6,30 @@ use Rattle.pl_calling.proofs.Keeping.{calls_agree}
 use Rattle.pl_calling.specs.Reading.{no_rows}
 use Rattle.pl_calling.specs.Standing.{Standing, calls_kept, fresh, keep}
 use Rattle.pl_engine.specs.Texts.{do_bodies}
-use Rattle.pl_journal.specs.Rows.{tables_of}
-use Rattle.pl_world.specs.Selection.{last_of}
+use Rattle.pl_engine.specs.pl_journal.Rows.{tables_of}
+use Rattle.pl_engine.specs.pl_world.Selection.{last_of}
 use Rattle.pl_natural.proofs.Parts.{values_agree}
 use Rattle.pl_natural.proofs.Rows.{rows_agree}
 use Rattle.pl_natural.proofs.Told.{told}
 use Rattle.pl_natural.proofs.Values.{value_agrees}
 use Rattle.pl_natural.specs.Kept.{CallsAgree, PartsAgree, ReadsKept, SubsAgree, kept}
-use Rattle.pl_query.specs.Query.{rows, rows_before}
-use Rattle.pl_query.specs.Sources.{Tables}
+use Rattle.pl_natural.specs.pl_query.Query.{rows, rows_before}
+use Rattle.pl_natural.specs.pl_query.Sources.{Tables}
 use Rattle.pl_resolved.specs.declared.expression.RExpr.{RExpr}
 use Rattle.pl_resolved.specs.declared.query.RQuery.{RQuery}
-use Rattle.pl_scope.specs.declared.resolve.ResolvedExpr.{ResolvedExpr}
+use Rattle.pl_engine.specs.pl_scope.declared.resolve.ResolvedExpr.{ResolvedExpr}
 use Rattle.pl_value.specs.Answers.{Reads}
 use Rattle.pl_value.specs.Frames.{Frame, Row}
 use Rattle.pl_value.specs.Meaning.{Sub, value, values}
 use Rattle.pl_value.specs.Reading.{Reading}
 use Rattle.pl_value.specs.declared.operand.Unsettled.{Unsettled}
-use Rattle.pl_world.specs.Calls.{Within, calls}
-use Rattle.pl_world.specs.Errors.{Spot}
-use Rattle.pl_world.specs.Expressions.{begun, inner, rows_over, value_over}
-use Rattle.pl_world.specs.Statements.{runner_for}
-use Rattle.pl_world.specs.Transactions.{arguments_over}
-use Rattle.pl_world.specs.Variables.{row_of}
-use Rattle.pl_world.specs.World.{World}
+use Rattle.pl_engine.specs.pl_world.Calls.{Within, calls}
+use Rattle.pl_engine.specs.pl_world.Errors.{Spot}
+use Rattle.pl_engine.specs.pl_world.Expressions.{begun, inner, rows_over, value_over}
+use Rattle.pl_engine.specs.pl_world.Statements.{runner_for}
+use Rattle.pl_engine.specs.pl_world.Transactions.{arguments_over}
+use Rattle.pl_engine.specs.pl_world.Variables.{row_of}
+use Rattle.pl_engine.specs.pl_world.World.{World}
 
 module _ (at : Spot) (room : ℕ) where
   pub agree : CallsAgree (keep at room) (calls (runner_for do_bodies room) at) calls_kept

@@ -10,12 +10,12 @@ use Rattle.pl_engine.specs.declared.engine.Engine.{Engine}
 use Rattle.pl_engine.specs.declared.port.Port.{Ghosts}
 use Rattle.pl_engine.specs.declared.stop.Stop.{Stop}
 use Rattle.pl_value.specs.Reading.{Reading, got, fails}
-use Rattle.pl_world.specs.Calls.{Within}
-use Rattle.pl_world.specs.Errors.{Spot, as_run_state, failure}
-use Rattle.pl_world.specs.Expressions.{failing, read, reads}
-use Rattle.pl_world.specs.World.{Event, Raised, Ran, World, and_then, behind, ends, made}
-use Rattle.pl_world.specs.declared.outcome.Outcome.{Outcome}
-use Rattle.pl_world.specs.declared.outcome.Outcome.TheVariants as outcome
+use Rattle.pl_engine.specs.pl_world.Calls.{Within}
+use Rattle.pl_engine.specs.pl_world.Errors.{Spot, as_run_state, failure}
+use Rattle.pl_engine.specs.pl_world.Expressions.{failing, read, reads}
+use Rattle.pl_engine.specs.pl_world.World.{Event, Raised, Ran, World, and_then, behind, ends, made}
+use Rattle.pl_engine.specs.pl_world.declared.outcome.Outcome.{Outcome}
+use Rattle.pl_engine.specs.pl_world.declared.outcome.Outcome.TheVariants as outcome
 
 -- a thing goes on, and an error ends the statement
 abbrev pub goes_on : {A : Type 0} → (A → World → Ran Outcome) → Result A Fail → World → Ran Outcome

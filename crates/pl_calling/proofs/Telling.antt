@@ -18,22 +18,22 @@ use Rattle.pl_engine.specs.declared.engine.Engine.{Engine}
 use Rattle.pl_engine.specs.declared.port.Port.{Ghosts}
 use Rattle.pl_engine.specs.declared.stop.Stop.{Stop}
 use Rattle.pl_engine.specs.declared.stop.Stop.TheVariants.{Memory}
-use Rattle.pl_world.specs.Trace as trace
-use Rattle.pl_world.specs.Trace.{last_commit}
-use Rattle.pl_scope.specs.declared.resolve.ResolvedExpr.{ResolvedExpr}
+use Rattle.pl_engine.specs.pl_world.Trace as trace
+use Rattle.pl_engine.specs.pl_world.Trace.{last_commit}
+use Rattle.pl_engine.specs.pl_scope.declared.resolve.ResolvedExpr.{ResolvedExpr}
 use Rattle.pl_undo.specs.Database.{Database}
 use Rattle.pl_value.specs.Frames.{Row}
 use Rattle.pl_value.specs.Reading.{Reading, got, fails}
-use Rattle.pl_world.specs.Calls.{Within, within}
-use Rattle.pl_world.specs.Errors.{Spot}
-use Rattle.pl_world.specs.Expressions.{evaluated, read, reads, value_over}
-use Rattle.pl_world.specs.Laws.{events}
-use Rattle.pl_world.specs.Running.{Runner}
-use Rattle.pl_world.specs.Scripts.{outward}
-use Rattle.pl_world.specs.Variables.{row_of}
-use Rattle.pl_world.specs.World.{Began, Committed, Event, Raised, Ran, Said, Stepped, World, made}
-use Rattle.pl_world.specs.declared.outcome.Outcome.{Outcome}
-use Rattle.pl_world.specs.declared.outcome.Outcome.TheVariants as outcome
+use Rattle.pl_engine.specs.pl_world.Calls.{Within, within}
+use Rattle.pl_engine.specs.pl_world.Errors.{Spot}
+use Rattle.pl_engine.specs.pl_world.Expressions.{evaluated, read, reads, value_over}
+use Rattle.pl_engine.specs.pl_world.Laws.{events}
+use Rattle.pl_engine.specs.pl_world.Running.{Runner}
+use Rattle.pl_engine.specs.pl_world.Scripts.{outward}
+use Rattle.pl_engine.specs.pl_world.Variables.{row_of}
+use Rattle.pl_engine.specs.pl_world.World.{Began, Committed, Event, Raised, Ran, Said, Stepped, World, made}
+use Rattle.pl_engine.specs.pl_world.declared.outcome.Outcome.{Outcome}
+use Rattle.pl_engine.specs.pl_world.declared.outcome.Outcome.TheVariants as outcome
 
 -- ---- where what was told ends
 

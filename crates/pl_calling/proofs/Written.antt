@@ -11,8 +11,8 @@ use Rattle.pl_names.specs.Names.{Name}
 use Rattle.pl_tables.specs.Named.{Named}
 use Rattle.pl_value.specs.declared.operand.Unsettled.{Unsettled}
 use Rattle.pl_value.specs.declared.operand.Unsettled.TheVariants.{Fails, Memory}
-use Rattle.pl_world.specs.Errors.{Spot}
-use Rattle.pl_world.specs.World.{World}
+use Rattle.pl_engine.specs.pl_world.Errors.{Spot}
+use Rattle.pl_engine.specs.pl_world.World.{World}
 
 -- ---- what a write leaves as it was
 

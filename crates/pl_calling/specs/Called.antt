@@ -4,11 +4,11 @@ use Rattle.pl_base.specs.States.{INTERNAL_ERROR}
 use Rattle.pl_base.specs.declared.value.Value.{Value}
 use Rattle.pl_calling.specs.declared.callee.Found.{Found}
 use Rattle.pl_names.specs.Names.{Name}
-use Rattle.pl_world.specs.Calls.{Callee, called, called_by_name}
-use Rattle.pl_world.specs.Errors.{Spot, raised}
-use Rattle.pl_world.specs.Running.{Runner}
-use Rattle.pl_world.specs.Variables.{entering}
-use Rattle.pl_world.specs.World.{World}
+use Rattle.pl_engine.specs.pl_world.Calls.{Callee, called, called_by_name}
+use Rattle.pl_engine.specs.pl_world.Errors.{Spot, raised}
+use Rattle.pl_engine.specs.pl_world.Running.{Runner}
+use Rattle.pl_engine.specs.pl_world.Variables.{entering}
+use Rattle.pl_engine.specs.pl_world.World.{World}
 
 -- what is held is this routine, called by a command or inside of an expression, and what names mean
 -- when its call is entered

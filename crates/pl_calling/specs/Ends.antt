@@ -8,15 +8,15 @@ use Rattle.pl_engine.specs.Answers.{Cut}
 use Rattle.pl_engine.specs.Engines.{stepped_in}
 use Rattle.pl_engine.specs.declared.port.Port.{Ghosts}
 use Rattle.pl_engine.specs.declared.stop.Stop.{Stop}
-use Rattle.pl_world.specs.Trace as trace
+use Rattle.pl_engine.specs.pl_world.Trace as trace
 use Rattle.pl_natural.specs.Kept.{ReadsKept}
 use Rattle.pl_undo.specs.Database.{Database}
 use Rattle.pl_value.specs.Reading.{Reading}
-use Rattle.pl_world.specs.Calls.{Within}
-use Rattle.pl_world.specs.Errors.{Spot, as_run_state, failure as arises}
-use Rattle.pl_world.specs.Expressions.{reads}
-use Rattle.pl_world.specs.Scripts.{outward}
-use Rattle.pl_world.specs.World.{Event, Ran, World, ends, made}
+use Rattle.pl_engine.specs.pl_world.Calls.{Within}
+use Rattle.pl_engine.specs.pl_world.Errors.{Spot, as_run_state, failure as arises}
+use Rattle.pl_engine.specs.pl_world.Expressions.{reads}
+use Rattle.pl_engine.specs.pl_world.Scripts.{outward}
+use Rattle.pl_engine.specs.pl_world.World.{Event, Ran, World, ends, made}
 
 -- a thing, or the error that there is none
 abbrev pub settles : {A : Type 0} → Reading Within A → Spot → Ran (Result A Fail)

@@ -3,16 +3,16 @@ use Rattle.std.specs.Prelude.{List, [], ◌++◌, Result, Ok, Err}
 use Rattle.pl_base.specs.declared.fail.Fail.{Fail}
 use Rattle.pl_engine.specs.Asks.{returned}
 use Rattle.pl_resolved.specs.declared.query.RQuery.{RQuery}
-use Rattle.pl_scope.specs.declared.resolve.ResolvedExpr.{ResolvedExpr}
+use Rattle.pl_engine.specs.pl_scope.declared.resolve.ResolvedExpr.{ResolvedExpr}
 use Rattle.pl_value.specs.Frames.{Row}
 use Rattle.pl_value.specs.Meaning.{Sub}
 use Rattle.pl_value.specs.Reading.{got}
-use Rattle.pl_world.specs.Errors.{Spot}
-use Rattle.pl_world.specs.Expressions.{read, reads, rows_over, value_over}
-use Rattle.pl_world.specs.Running.{Runner}
-use Rattle.pl_world.specs.Variables.{row_of}
-use Rattle.pl_world.specs.World.{World, Ran, ends}
-use Rattle.pl_world.specs.declared.outcome.Outcome.{Outcome}
+use Rattle.pl_engine.specs.pl_world.Errors.{Spot}
+use Rattle.pl_engine.specs.pl_world.Expressions.{read, reads, rows_over, value_over}
+use Rattle.pl_engine.specs.pl_world.Running.{Runner}
+use Rattle.pl_engine.specs.pl_world.Variables.{row_of}
+use Rattle.pl_engine.specs.pl_world.World.{World, Ran, ends}
+use Rattle.pl_engine.specs.pl_world.declared.outcome.Outcome.{Outcome}
 
 -- the value of an expression, with further values behind the variables
 abbrev pub read_beside : Runner → Spot → ResolvedExpr → Row → World → Ran Outcome

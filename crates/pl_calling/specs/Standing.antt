@@ -6,19 +6,19 @@ use Rattle.pl_base.specs.declared.value.Value.{Value}
 use Rattle.pl_engine.specs.Engines.{Kept, stepped_in}
 use Rattle.pl_engine.specs.Holding.{said}
 use Rattle.pl_engine.specs.Texts.{do_bodies}
-use Rattle.pl_journal.specs.Operation.{empty}
-use Rattle.pl_world.specs.Trace as trace
+use Rattle.pl_engine.specs.pl_journal.Operation.{empty}
+use Rattle.pl_engine.specs.pl_world.Trace as trace
 use Rattle.pl_value.specs.Meaning.{Calls}
 use Rattle.pl_value.specs.Reading.{Reading, got, fails}
-use Rattle.pl_world.specs.Calls.{Within, called_by_name, void}
-use Rattle.pl_world.specs.Errors.{Spot}
-use Rattle.pl_world.specs.Expressions.{begun}
-use Rattle.pl_world.specs.Scripts.{outward}
-use Rattle.pl_world.specs.Sessions.{new_world}
-use Rattle.pl_world.specs.Statements.{runner_for}
-use Rattle.pl_world.specs.World.{Event, Ran, World, made}
-use Rattle.pl_world.specs.declared.outcome.Outcome.{Outcome}
-use Rattle.pl_world.specs.declared.outcome.Outcome.TheVariants as outcome
+use Rattle.pl_engine.specs.pl_world.Calls.{Within, called_by_name, void}
+use Rattle.pl_engine.specs.pl_world.Errors.{Spot}
+use Rattle.pl_engine.specs.pl_world.Expressions.{begun}
+use Rattle.pl_engine.specs.pl_world.Scripts.{outward}
+use Rattle.pl_engine.specs.pl_world.Sessions.{new_world}
+use Rattle.pl_engine.specs.pl_world.Statements.{runner_for}
+use Rattle.pl_engine.specs.pl_world.World.{Event, Ran, World, made}
+use Rattle.pl_engine.specs.pl_world.declared.outcome.Outcome.{Outcome}
+use Rattle.pl_engine.specs.pl_world.declared.outcome.Outcome.TheVariants as outcome
 
 -- Of what happened since the evaluation began it has what was printed and committed, and how many
 -- steps were taken. Calls are those of the statement at the spot, with room for so many steps.

@@ -6,7 +6,7 @@ use Rattle.pl_engine.specs.Changing.{Wrote, without_row}
 use Rattle.pl_names.specs.Names.{Name}
 use Rattle.pl_tables.specs.Named.{Named}
 use Rattle.pl_value.specs.declared.operand.Unsettled.{Unsettled}
-use Rattle.pl_world.specs.World.{World}
+use Rattle.pl_engine.specs.pl_world.World.{World}
 
 abbrev pub in_world : World → Standing → Standing
 in_world w s = record s { world = w }

@@ -5,17 +5,17 @@ ghost use Rattle.pl_calling.specs.Called.{IsCallee};
 ghost use Rattle.pl_engine.specs.Answers.{Done};
 ghost use Rattle.pl_engine.specs.Engines.{Quiet, kept, world};
 ghost use Rattle.pl_engine.specs.Texts.{do_bodies};
-ghost use Rattle.pl_world.specs.Calls as spec;
-ghost use Rattle.pl_world.specs.Running.{body};
-ghost use Rattle.pl_world.specs.Statements.{run_within, runner_for};
-ghost use Rattle.pl_world.specs.World.{and_then};
-ghost use Rattle.pl_world.specs.declared.outcome.Outcome.TheVariants as outcome;
+ghost use Rattle.pl_engine.specs.pl_world.Calls as spec;
+ghost use Rattle.pl_engine.specs.pl_world.Running.{body};
+ghost use Rattle.pl_engine.specs.pl_world.Statements.{run_within, runner_for};
+ghost use Rattle.pl_engine.specs.pl_world.World.{and_then};
+ghost use Rattle.pl_engine.specs.pl_world.declared.outcome.Outcome.TheVariants as outcome;
 
 use crate::callee::{Found, find};
 use crate::converting::as_type;
 use pl_base::{List, Memory, Name, State, Txt, Ty, Value};
+use pl_engine::pl_world::Outcome;
 use pl_engine::{BodyRunner, Engine, Held, Port, Spot, Stop};
-use pl_world::Outcome;
 
 /// So many calls run at the most.
 pub const MOST_CALLS: usize = 64;

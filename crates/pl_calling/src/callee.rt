@@ -3,12 +3,12 @@
 ghost use Rattle.std.specs.Prelude.{◌≡◌, Bool, IfOk};
 ghost use Rattle.pl_calling.specs.Called.{CallsIt, IsCallee};
 ghost use Rattle.pl_engine.specs.Engines.{world};
-ghost use Rattle.pl_world.specs.Calls as spec;
+ghost use Rattle.pl_engine.specs.pl_world.Calls as spec;
 
 use pl_base::{Name, Ty, Value};
 use pl_catalog::{Routine, RoutineBody};
-use pl_declared::Static;
 use pl_engine::Engine;
+use pl_engine::pl_declared::Static;
 use pl_tree::{ResultType, RoutineKind};
 use std::alloc::{AllocError, Global};
 

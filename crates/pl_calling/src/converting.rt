@@ -5,14 +5,14 @@ ghost use Rattle.pl_calc.specs.Answer.{Gives};
 ghost use Rattle.pl_calc.specs.Casts as casts;
 ghost use Rattle.pl_engine.specs.Asks.{returned};
 ghost use Rattle.pl_engine.specs.Engines.{Quiet, world};
-ghost use Rattle.pl_world.specs.Conversions as spec;
-ghost use Rattle.pl_world.specs.Errors as errors;
+ghost use Rattle.pl_engine.specs.pl_world.Conversions as spec;
+ghost use Rattle.pl_engine.specs.pl_world.Errors as errors;
 
 use pl_base::{Memory, State, Ty, Value};
 use pl_calc::{CalcFail, cast};
+use pl_engine::pl_world::Outcome;
 use pl_engine::{Engine, Spot};
 use pl_print::text_of;
-use pl_world::Outcome;
 use std::alloc::Global;
 
 // An assignment casts the value to this type.

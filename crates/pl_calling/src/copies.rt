@@ -1,16 +1,16 @@
 //! The tables that queries read, copied: calls may change them while the queries are read.
 
 ghost use Rattle.std.specs.Prelude.{◌≡◌, IfOk};
-ghost use Rattle.pl_change.specs.Running.{copied};
+ghost use Rattle.pl_engine.specs.pl_change.Running.{copied};
 ghost use Rattle.pl_engine.specs.Engines.{world};
-ghost use Rattle.pl_journal.specs.Rows.{tables_of};
-ghost use Rattle.pl_query.specs.Query.{rows};
+ghost use Rattle.pl_engine.specs.pl_journal.Rows.{tables_of};
+ghost use Rattle.pl_natural.specs.pl_query.Query.{rows};
 ghost use Rattle.pl_value.specs.Meaning.{Calls};
 
 use pl_base::List;
-use pl_change::{Copies, copy_tables};
 use pl_engine::Engine;
-use pl_inside::tables_read;
+use pl_engine::pl_change::{Copies, copy_tables};
+use pl_engine::pl_inside::tables_read;
 use pl_resolved::RQuery;
 use std::alloc::AllocError;
 

@@ -7,11 +7,11 @@ ghost use Rattle.pl_engine.specs.Answers.{Answers};
 ghost use Rattle.pl_engine.specs.Engines.{kept, world};
 ghost use Rattle.pl_engine.specs.Holding.{said};
 ghost use Rattle.pl_engine.specs.declared.engine.Engine as declared;
-ghost use Rattle.pl_world.specs.Trace.{Said};
+ghost use Rattle.pl_engine.specs.pl_world.Trace.{Said};
 ghost use Rattle.pl_natural.specs.Kept.{ReadsKept};
 ghost use Rattle.pl_undo.specs.Database.{Database};
 ghost use Rattle.pl_value.specs.Reading.{Reading};
-ghost use Rattle.pl_world.specs.Calls.{Within};
+ghost use Rattle.pl_engine.specs.pl_world.Calls.{Within};
 
 use crate::calling::Calling;
 use crate::converting::run_state;

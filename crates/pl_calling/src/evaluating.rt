@@ -7,9 +7,9 @@ ghost use Rattle.pl_engine.specs.Answers.{Answers};
 ghost use Rattle.pl_engine.specs.Asks.{returned};
 ghost use Rattle.pl_engine.specs.Engines.{kept, world};
 ghost use Rattle.pl_engine.specs.Texts.{do_bodies};
-ghost use Rattle.pl_world.specs.Expressions.{evaluated, value_over};
-ghost use Rattle.pl_world.specs.Statements.{runner_for};
-ghost use Rattle.pl_world.specs.Variables.{row_of};
+ghost use Rattle.pl_engine.specs.pl_world.Expressions.{evaluated, value_over};
+ghost use Rattle.pl_engine.specs.pl_world.Statements.{runner_for};
+ghost use Rattle.pl_engine.specs.pl_world.Variables.{row_of};
 
 use crate::calling::Calling;
 use crate::copies::copies_for;
@@ -18,9 +18,9 @@ use crate::lending::{row_beside, value_over};
 use crate::start::Start;
 use crate::trial::try_value;
 use pl_base::{Fail, Value};
+use pl_engine::pl_scope::ResolvedExpr;
+use pl_engine::pl_world::Outcome;
 use pl_engine::{BodyRunner, Calls, Engine, Port, Spot, Stop};
-use pl_scope::ResolvedExpr;
-use pl_world::Outcome;
 use std::marker::Brand;
 
 // The value, or its error, where calls are reached.

@@ -3,19 +3,19 @@
 ghost use Rattle.std.specs.Prelude.{◌≡◌, [], ◌∷◌, ◌++◌, map, IfOk, OnOk};
 ghost use Rattle.pl_calling.specs.Reading.{no_rows};
 ghost use Rattle.pl_engine.specs.Engines.{world};
-ghost use Rattle.pl_world.specs.Selection as spec;
-ghost use Rattle.pl_query.specs.Query.{rows};
+ghost use Rattle.pl_engine.specs.pl_world.Selection as spec;
+ghost use Rattle.pl_natural.specs.pl_query.Query.{rows};
 ghost use Rattle.pl_value.specs.Answers.{Reads};
 ghost use Rattle.pl_value.specs.Meaning as meaning;
 ghost use Rattle.pl_value.specs.Meaning.{value};
-ghost use Rattle.pl_world.specs.Variables.{row_of};
+ghost use Rattle.pl_engine.specs.pl_world.Variables.{row_of};
 
 use pl_base::{Cells, List, Value};
-use pl_change::copy_row;
 use pl_engine::Engine;
-use pl_query::{Tables, evaluate, run};
+use pl_engine::pl_change::copy_row;
+use pl_engine::pl_scope::ResolvedExpr;
+use pl_natural::pl_query::{Tables, evaluate, run};
 use pl_resolved::{RExpr, RQuery};
-use pl_scope::ResolvedExpr;
 use pl_value::{Caller, Lent, NoQueries, Unsettled, values};
 use std::alloc::{AllocError, Global};
 

@@ -23,5 +23,7 @@ pub use converting::{as_type, convert, run_state};
 pub use copies::copies_for;
 pub use ending::finish;
 pub use evaluating::{evaluate, evaluate_beside};
+pub use pl_engine;
+pub use pl_names;
 pub use querying::query;
 pub use start::Start;

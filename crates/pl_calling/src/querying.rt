@@ -5,7 +5,7 @@ ghost use Rattle.pl_calling.specs.Reading.{rows_read};
 ghost use Rattle.pl_engine.specs.Answers.{Answers};
 ghost use Rattle.pl_engine.specs.Engines.{kept, world};
 ghost use Rattle.pl_engine.specs.Texts.{do_bodies};
-ghost use Rattle.pl_world.specs.Statements.{runner_for};
+ghost use Rattle.pl_engine.specs.pl_world.Statements.{runner_for};
 
 use crate::calling::Calling;
 use crate::copies::copies_for;
@@ -14,7 +14,7 @@ use crate::lending::rows_over;
 use crate::start::Start;
 use crate::trial::try_rows;
 use pl_base::{Cells, Fail, List};
-use pl_change::copy_row;
+use pl_engine::pl_change::copy_row;
 use pl_engine::{BodyRunner, Calls, Engine, Port, Spot, Stop};
 use pl_resolved::RQuery;
 use std::marker::Brand;

@@ -2,7 +2,7 @@
 
 ghost use Rattle.pl_calling.specs.Standing.{nothing, nowhere};
 ghost use Rattle.pl_engine.specs.Engines.{Kept};
-ghost use Rattle.pl_world.specs.World.{World};
+ghost use Rattle.pl_engine.specs.pl_world.World.{World};
 
 use std::marker::Brand;
 

@@ -2,14 +2,14 @@
 
 ghost use Rattle.std.specs.Prelude.{◌≡◌, IsSome, None, Some, OnErr, OnOk};
 ghost use Rattle.pl_calling.specs.Writing.{WroteIn, without_row_in};
-ghost use Rattle.pl_journal.specs.Writing.{written};
+ghost use Rattle.pl_engine.specs.pl_journal.Writing.{written};
 ghost use Rattle.pl_tables.specs.Named.{row_named};
 
 use crate::calling::Calling;
 use crate::start::Start;
 use pl_base::{Cells, Name};
 use pl_engine::BodyRunner;
-use pl_journal::Journal;
+use pl_engine::pl_journal::Journal;
 use pl_value::Unsettled;
 use std::alloc::AllocError;
 

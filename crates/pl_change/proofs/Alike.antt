@@ -2,12 +2,12 @@
 use Rattle.std.proofs.Common.{◌≡◌, refl, ap, ◌∙◌, ℕ, List, [], ◌∷◌, ◌++◌, map, Bool, true, false, Option, Some, None}
 use Rattle.std.proofs.Math.Path.{fun_ext}
 use Rattle.std.specs.Prelude.{option_map}
-use Rattle.pl_catalog.specs.declared.object.Object.{Object}
+use Rattle.pl_journal.specs.pl_catalog.declared.object.Object.{Object}
 use Rattle.pl_change.specs.Changes.{Progress, Setting, adds, adds_found, adds_values, assigned, at_row, deletes, does, ids, if_some, if_there, progress, read_if, set_if, shown_if, takes, told, updates, values_if, writes}
 use Rattle.pl_change.specs.Running.{AreSame, AreSameRows, ChangeIsSame, IsSame, SourceIsSame, WhatIsSame, does_from, inserts_from}
 use Rattle.pl_journal.specs.Writing.{written}
 use Rattle.pl_product.specs.Product.{passes}
-use Rattle.pl_query.specs.Rows.{in_turn}
+use Rattle.pl_inside.specs.pl_query.Rows.{in_turn}
 use Rattle.pl_resolved.specs.declared.expression.RExpr.{RExpr}
 use Rattle.pl_tables.specs.Named.{row_named}
 use Rattle.pl_targets.specs.declared.change.RChange.{RChange}

@@ -3,9 +3,9 @@ use Rattle.std.proofs.Common.{◌≡◌, ◌<◌, ◌≤◌, ◌+◌, inl, inr, 
 use Rattle.std.specs.Prelude.{option_and_then, option_map, IfOk}
 use Rattle.std.specs.Map.{remove_entry, set_value}
 use Rattle.pl_base.specs.declared.state.State.{State}
-use Rattle.pl_catalog.specs.declared.object.Object.{Object}
-use Rattle.pl_catalog.specs.declared.object.TableDef.{TableDef}
-use Rattle.pl_catalog.specs.Objects.{table_named, tables_in}
+use Rattle.pl_journal.specs.pl_catalog.declared.object.Object.{Object}
+use Rattle.pl_journal.specs.pl_catalog.declared.object.TableDef.{TableDef}
+use Rattle.pl_journal.specs.pl_catalog.Objects.{table_named, tables_in}
 use Rattle.pl_journal.proofs.Noted.{if_ok_then}
 use Rattle.pl_journal.proofs.TurnedDown.{down, head_there, others_last}
 use Rattle.pl_change.proofs.Turns.{row_there}
@@ -17,10 +17,10 @@ use Rattle.pl_journal.proofs.Truths.{chained, equal_number, none_some, other_num
 use Rattle.pl_journal.specs.Sound.{AreRows}
 use Rattle.pl_journal.specs.Writing.{other_refused, unless, unless_broken, with_row, written, written_by}
 use Rattle.pl_product.specs.Product as product
-use Rattle.pl_query.specs.Rows.{in_turn}
+use Rattle.pl_inside.specs.pl_query.Rows.{in_turn}
 use Rattle.pl_resolved.specs.declared.expression.RExpr.{RExpr}
-use Rattle.pl_rules.specs.Rules.{first_failure, holds}
-use Rattle.pl_rules.specs.declared.rules.RuleFail.{RuleFail}
+use Rattle.pl_journal.specs.pl_rules.Rules.{first_failure, holds}
+use Rattle.pl_journal.specs.pl_rules.declared.rules.RuleFail.{RuleFail}
 use Rattle.pl_tables.specs.Named as tables
 use Rattle.pl_tables.specs.Named.{Named, content_named, on_table, row_named}
 use Rattle.pl_tables.specs.Rows.{Content, removed, replaced, row_at}

@@ -4,15 +4,15 @@ use Rattle.std.proofs.lemmas.List.{drop_all}
 use Rattle.std.specs.Prelude.{OnOk}
 use Rattle.pl_base.specs.States.{TRIGGERED_DATA_CHANGE_VIOLATION}
 use Rattle.pl_base.specs.declared.state.State.{State}
-use Rattle.pl_catalog.specs.declared.object.Object.{Object}
+use Rattle.pl_journal.specs.pl_catalog.declared.object.Object.{Object}
 use Rattle.pl_change.specs.Changes.{Progress, Setting, at_row, if_there, progress, told, writes}
 use Rattle.pl_change.specs.Running.{reached}
 use Rattle.pl_journal.specs.Journal.{Leads}
 use Rattle.pl_journal.specs.Writing.{written}
 use Rattle.pl_tables.specs.Named.{Named, row_named}
-use Rattle.pl_query.specs.Rows.{in_turn}
+use Rattle.pl_inside.specs.pl_query.Rows.{in_turn}
 use Rattle.pl_resolved.specs.declared.expression.RExpr.{RExpr}
-use Rattle.pl_undo.specs.Database.{Database}
+use Rattle.pl_journal.specs.pl_undo.Database.{Database}
 use Rattle.pl_value.specs.Answers.{Reads}
 use Rattle.pl_value.specs.Frames.{Frame, Row}
 use Rattle.pl_value.specs.Meaning.{Calls, Sub, value, values}

@@ -5,12 +5,12 @@ use Rattle.std.specs.Prelude.{ℕ, Bool, true, false, List, [], ◌∷◌, ◌++
 use Rattle.std.specs.Prelude.{Option, Some, None, option_map}
 use Rattle.pl_base.specs.States.{TRIGGERED_DATA_CHANGE_VIOLATION}
 use Rattle.pl_base.specs.declared.value.Value.{Value}
-use Rattle.pl_catalog.specs.declared.object.Object.{Object}
+use Rattle.pl_journal.specs.pl_catalog.declared.object.Object.{Object}
 use Rattle.pl_journal.specs.Rows.{tables_of}
 use Rattle.pl_journal.specs.Writing.{written}
 use Rattle.pl_product.specs.Product.{passes}
-use Rattle.pl_query.specs.Query.{rows}
-use Rattle.pl_query.specs.Rows.{in_turn}
+use Rattle.pl_inside.specs.pl_query.Query.{rows}
+use Rattle.pl_inside.specs.pl_query.Rows.{in_turn}
 use Rattle.pl_resolved.specs.declared.expression.RExpr.{RExpr}
 use Rattle.pl_tables.specs.Named.{Named, on_table, row_named, rows_named}
 use Rattle.pl_tables.specs.Rows.{removed}
@@ -20,7 +20,7 @@ use Rattle.pl_targets.specs.declared.change.RRows.{RRows}
 use Rattle.pl_targets.specs.declared.change.RRows.TheVariants.{Values, Query}
 use Rattle.pl_targets.specs.declared.change.RWhat.{RWhat}
 use Rattle.pl_targets.specs.declared.change.RWhat.TheVariants.{Insert, Update, Delete}
-use Rattle.pl_undo.specs.Database.{Database}
+use Rattle.pl_journal.specs.pl_undo.Database.{Database}
 use Rattle.pl_value.specs.Frames.{Frame, Row}
 use Rattle.pl_value.specs.Meaning.{Calls, Part as Meaning, Sub, value, values}
 use Rattle.pl_value.specs.Reading.{Reading, got, fails, settled, then_read}

@@ -2,16 +2,16 @@
 use Rattle.std.specs.Prelude.{◌≡◌, ◌⊎◌, ℕ, if◌then◌else◌, nat_eq, List, [], ◌∷◌, map, Option, Some, None}
 use Rattle.std.specs.Prelude.{option_map, IsSome, Result, Ok, Err}
 use Rattle.std.specs.Cmp.Lexicographic.{pointwise}
-use Rattle.pl_catalog.specs.declared.object.Object.{Object}
+use Rattle.pl_journal.specs.pl_catalog.declared.object.Object.{Object}
 use Rattle.pl_change.specs.Changes.{Progress, Setting, adds_found, adds_values, deletes_all, ids}
 use Rattle.pl_change.specs.Changes.{progress, updates_all}
 use Rattle.pl_change.specs.declared.at_start.Copied.{Copied}
 use Rattle.pl_change.specs.declared.command.Command.{Command}
 use Rattle.pl_journal.specs.ByKey.{IsFoundFor}
 use Rattle.pl_journal.specs.Rows.{tables_of}
-use Rattle.pl_query.specs.Query.{rows}
-use Rattle.pl_query.specs.Rows.{in_turn}
-use Rattle.pl_query.specs.Sources.{Tables}
+use Rattle.pl_inside.specs.pl_query.Query.{rows}
+use Rattle.pl_inside.specs.pl_query.Rows.{in_turn}
+use Rattle.pl_inside.specs.pl_query.Sources.{Tables}
 use Rattle.pl_resolved.specs.declared.expression.RExpr.{RExpr}
 use Rattle.pl_tables.specs.Named.{Named, row_named}
 use Rattle.pl_targets.specs.declared.change.RChange.{RChange}
@@ -20,7 +20,7 @@ use Rattle.pl_targets.specs.declared.change.RRows.{RRows}
 use Rattle.pl_targets.specs.declared.change.RRows.TheVariants.{Values, Query}
 use Rattle.pl_targets.specs.declared.change.RWhat.{RWhat}
 use Rattle.pl_targets.specs.declared.change.RWhat.TheVariants.{Insert, Update, Delete}
-use Rattle.pl_undo.specs.Database.{Database}
+use Rattle.pl_journal.specs.pl_undo.Database.{Database}
 use Rattle.pl_value.specs.Frames.{Frame, Row, rows_of}
 use Rattle.pl_value.specs.Meaning.{Calls, Sub, value}
 use Rattle.pl_value.specs.Reading.{Reading, then_read}

@@ -9,8 +9,8 @@ ghost use Rattle.pl_tables.specs.Slots.{before, live};
 ghost use Rattle.pl_value.specs.Frames.{rows_of};
 
 use pl_base::{Cells, List, Name, Value, copy_each};
+use pl_inside::pl_query::Tables;
 use pl_journal::Journal;
-use pl_query::Tables;
 use pl_resolved::RExpr;
 use pl_tables::Slot;
 use pl_value::Lent;

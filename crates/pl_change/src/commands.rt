@@ -1,13 +1,13 @@
 //! Whole commands.
 
 ghost use Rattle.std.specs.Prelude.{◌≡◌, [], List, OnOk};
-ghost use Rattle.pl_catalog.specs.declared.object.Object.{Object};
+ghost use Rattle.pl_journal.specs.pl_catalog.declared.object.Object.{Object};
 ghost use Rattle.pl_change.specs.Changes as spec;
 ghost use Rattle.pl_change.specs.Changes.{progress};
 ghost use Rattle.pl_change.specs.Running.{adds_from, does_from, inserts_from, reached, rows_over};
 ghost use Rattle.pl_change.specs.Running.{setting_of};
 ghost use Rattle.pl_journal.specs.Journal.{ChangesOnly};
-ghost use Rattle.pl_query.specs.Rows.{in_turn};
+ghost use Rattle.pl_inside.specs.pl_query.Rows.{in_turn};
 ghost use Rattle.pl_value.specs.Answers.{Reads};
 ghost use Rattle.pl_value.specs.Frames.{rows_of};
 
@@ -18,9 +18,9 @@ use crate::by_key::ids_for;
 use crate::evaluation::{pop_row, push_row, stand, with_room};
 use crate::rows::{add_row, delete_row, update_row};
 use pl_base::{Boxed, Cells, List};
+use pl_inside::pl_query::{Queries, Rows, Store, run as run_query};
 use pl_inside::tables_read;
 use pl_journal::Journal;
-use pl_query::{Queries, Rows, Store, run as run_query};
 use pl_resolved::RExpr;
 use pl_targets::{RChange, RRow, RRows, RWhat};
 use pl_value::{Caller, Lent, NoQueries, Subqueries, Unsettled};

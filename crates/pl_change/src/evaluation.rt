@@ -2,7 +2,7 @@
 
 ghost use Rattle.std.specs.Prelude.{◌≡◌, ◌-◌, [], ◌∷◌, ◌++◌, length, option_map, take, List, IfOk};
 ghost use Rattle.std.specs.Prelude.{OnOk};
-ghost use Rattle.pl_catalog.specs.declared.object.Object.{Object};
+ghost use Rattle.pl_journal.specs.pl_catalog.declared.object.Object.{Object};
 ghost use Rattle.pl_change.specs.Changes as spec;
 ghost use Rattle.pl_change.specs.Running.{setting_of};
 ghost use Rattle.pl_change.specs.declared.command.Command as running;

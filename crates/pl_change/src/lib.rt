@@ -13,4 +13,7 @@ mod writing;
 pub use at_start::{Copied, Copies, copy_row, copy_tables};
 pub use command::Command;
 pub use commands::change;
-pub use pl_journal::{Candidates, candidates_for};
+pub use pl_inside;
+pub use pl_journal;
+pub use pl_journal::{Candidates, candidates_for, pl_define};
+pub use pl_targets::{pl_names, pl_scope};

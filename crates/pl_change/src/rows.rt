@@ -2,7 +2,7 @@
 
 ghost use Rattle.std.specs.Prelude.{◌≡◌, IfOk, IsSome, List, OnOk, Some, option_map, slice_set};
 ghost use Rattle.std.specs.Option.{option_copied};
-ghost use Rattle.pl_catalog.specs.declared.object.Object.{Object};
+ghost use Rattle.pl_journal.specs.pl_catalog.declared.object.Object.{Object};
 ghost use Rattle.pl_change.specs.Changes as spec;
 ghost use Rattle.pl_change.specs.Changes.{assigned, progress};
 ghost use Rattle.pl_change.specs.Running.{reached, setting_of};
@@ -19,8 +19,8 @@ use crate::at_start::copy_row;
 use crate::evaluation::{read_if, stand};
 use crate::writing::write_row;
 use pl_base::{Boxed, Cells, Name, State, Value};
+use pl_inside::pl_query::Rows;
 use pl_journal::Journal;
-use pl_query::Rows;
 use pl_resolved::RExpr;
 use pl_value::{Caller, Lent, Subqueries, Unsettled, values as read_values};
 use std::alloc::{AllocError, Global};

@@ -1,7 +1,7 @@
 //! One row is written: its rules, the write, RETURNING.
 
 ghost use Rattle.std.specs.Prelude.{◌≡◌, [], ◌∷◌, ◌++◌, IfOk, List};
-ghost use Rattle.pl_catalog.specs.declared.object.Object.{Object};
+ghost use Rattle.pl_journal.specs.pl_catalog.declared.object.Object.{Object};
 ghost use Rattle.pl_change.specs.Changes as spec;
 ghost use Rattle.pl_change.specs.Changes.{progress};
 ghost use Rattle.pl_change.specs.Running.{reached, setting_of, HasRow};
@@ -16,8 +16,8 @@ use crate::Command;
 use crate::at_start::copy_row;
 use crate::evaluation::show;
 use pl_base::{Cells, List, Value};
+use pl_inside::pl_query::Rows;
 use pl_journal::Journal;
-use pl_query::Rows;
 use pl_resolved::RExpr;
 use pl_value::{Caller, Subqueries, Unsettled};
 use std::alloc::{AllocError, Global};

@@ -6,7 +6,7 @@ use pl_base::{
     Arithmetic, Boxed, Cells, Comparison, Held, List, Name, Op, Operator, Txt, Ty, Value,
 };
 use pl_change::change;
-use pl_journal::Journal;
+use pl_change::pl_journal::Journal;
 use pl_resolved::{
     Aggregate, Head, RAggregate, RChain, RExpr, RGroups, RJoin, RPair, RQuery, RSource, RStep,
 };

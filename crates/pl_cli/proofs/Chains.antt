@@ -3,7 +3,7 @@ use Rattle.std.proofs.Common.{◌≡◌, inl, inr, ⊎_elim, ℕ, List, [], ◌�
 use Rattle.pl_base.specs.Image.{Image}
 use Rattle.pl_disk.specs.Disk.{View}
 use Rattle.pl_undo.specs.Database.{Database}
-use Rattle.pl_world.specs.Opening.{opens}
+use Rattle.pl_session.specs.pl_world.Opening.{opens}
 use Rattle.pl_cli.specs.Covers.{CoveredRun, IsChain, Known, Ran}
 
 module _ {H : Type 0} (view : H → View) (first : H) where

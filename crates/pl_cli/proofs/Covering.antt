@@ -5,11 +5,11 @@ use Rattle.pl_base.specs.Image.{Image}
 use Rattle.pl_disk.specs.Disk.{View, IsLawful, Elapses, Runs, Settled, with_attached}
 use Rattle.pl_disk.specs.Lent.{each, since_attach}
 use Rattle.pl_keeper.specs.Batches.{Damage}
-use Rattle.pl_world.specs.Covered.{AlongFrom}
+use Rattle.pl_session.specs.pl_world.Covered.{AlongFrom}
 use Rattle.pl_undo.specs.Database.{Database}
-use Rattle.pl_world.proofs.Lent.{covered, start}
-use Rattle.pl_world.specs.Opening.{opens}
-use Rattle.pl_world.specs.Trace.{Event, last_commit, text}
+use Rattle.pl_session.proofs.of_pl_world.Lent.{covered, start}
+use Rattle.pl_session.specs.pl_world.Opening.{opens}
+use Rattle.pl_session.specs.pl_world.Trace.{Event, last_commit, text}
 use Rattle.pl_session.specs.Endings.{Done}
 use Rattle.pl_session.specs.Starts.{IsStarted, OpensSame, StartPair}
 use Rattle.pl_session.specs.declared.state.SessionState.{SessionState}

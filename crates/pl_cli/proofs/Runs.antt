@@ -9,14 +9,14 @@ use Rattle.pl_disk.specs.Lent.{each, from_call, goes_on, runs_on, since_attach, 
 use Rattle.pl_disk.specs.declared.device.Failed.{Failed}
 use Rattle.pl_keeper.specs.Batches.{Damage}
 use Rattle.pl_keeper.specs.Store.{Has, KeepsFile}
-use Rattle.pl_world.specs.Covered.{AlongFrom}
+use Rattle.pl_session.specs.pl_world.Covered.{AlongFrom}
 use Rattle.pl_undo.specs.Database.{Database}
-use Rattle.pl_world.specs.Opening.{opens}
-use Rattle.pl_world.specs.Trace.{Event, Said, is_failed, text as text_of}
+use Rattle.pl_session.specs.pl_world.Opening.{opens}
+use Rattle.pl_session.specs.pl_world.Trace.{Event, Said, is_failed, text as text_of}
 use Rattle.pl_session.specs.Starts.{IsStarted, StartPair}
 use Rattle.pl_session.specs.Traces.{AreFront, IsTrace, LeadsTo}
-use Rattle.pl_world.specs.Sessions.{Session, new_session}
-use Rattle.pl_world.specs.declared.session.Mode.TheVariants as mode
+use Rattle.pl_session.specs.pl_world.Sessions.{Session, new_session}
+use Rattle.pl_session.specs.pl_world.declared.session.Mode.TheVariants as mode
 use Rattle.pl_session.specs.Short.{IsShort, StaysShort}
 use Rattle.pl_session.specs.Spare.{KeepsArea}
 use Rattle.pl_session.specs.State.{IsReady, database_in, session_in}

@@ -2,9 +2,9 @@
 use Rattle.std.specs.Prelude.{◌≡◌, ◌⊎◌, ℕ, List, [], ◌∷◌, ◌++◌}
 use Rattle.pl_base.specs.Image.{Image}
 use Rattle.pl_disk.specs.Disk.{View}
-use Rattle.pl_world.specs.Covered.{Covered}
+use Rattle.pl_session.specs.pl_world.Covered.{Covered}
 use Rattle.pl_undo.specs.Database.{Database}
-use Rattle.pl_world.specs.Trace.{Event}
+use Rattle.pl_session.specs.pl_world.Trace.{Event}
 
 -- what was printed since the run's start, and the files that a crash then leaves, are covered by
 -- the events

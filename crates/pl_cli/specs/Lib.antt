@@ -7,3 +7,4 @@ pub mod Endings
 pub mod Covers
 pub mod Runs
 pub mod Parts
+pub use Rattle.pl_session.specs as pl_session

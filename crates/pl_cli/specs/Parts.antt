@@ -1,10 +1,10 @@
 -- What the steps of a run do: the last line that it says, and the commands of its script.
 use Rattle.std.specs.Prelude.{◌≡◌, ◌≢◌, ◌⊎◌, ◌&&◌, ℕ, List, ◌++◌, Bool, true, false}
 use Rattle.pl_disk.specs.Disk.{View, Continues, Elapses, IsPrefix, Keeps, Rises}
-use Rattle.pl_world.specs.Trace.{Event, is_failed}
+use Rattle.pl_session.specs.pl_world.Trace.{Event, is_failed}
 use Rattle.pl_session.specs.Endings.{Done, PrintsWhole}
 use Rattle.pl_session.specs.Traces.{AreFront, IsTrace}
-use Rattle.pl_world.specs.Sessions.{Session}
+use Rattle.pl_session.specs.pl_world.Sessions.{Session}
 use Rattle.pl_cli.specs.declared.ending.Ending.{Ending}
 use Rattle.pl_cli.specs.declared.ending.Ending.TheVariants.{Whole, Usage, AtError, Disk, Source, Say, Damaged, Refused, Memory}
 

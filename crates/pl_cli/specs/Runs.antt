@@ -4,12 +4,12 @@ use Rattle.pl_base.specs.Image.{Image}
 use Rattle.pl_disk.specs.Disk.{View, IsPrefix, Rises, Untouched}
 use Rattle.pl_keeper.specs.Batches.{Damage}
 use Rattle.pl_undo.specs.Database.{Database}
-use Rattle.pl_world.specs.Opening.{opens}
-use Rattle.pl_world.specs.Trace.{Event, Said, is_failed}
+use Rattle.pl_session.specs.pl_world.Opening.{opens}
+use Rattle.pl_session.specs.pl_world.Trace.{Event, Said, is_failed}
 use Rattle.pl_session.specs.Endings.{Done}
 use Rattle.pl_session.specs.Traces.{AreFront, IsTrace, LeadsTo}
-use Rattle.pl_world.specs.Sessions.{Session, new_session}
-use Rattle.pl_world.specs.declared.session.Mode.TheVariants as mode
+use Rattle.pl_session.specs.pl_world.Sessions.{Session, new_session}
+use Rattle.pl_session.specs.pl_world.declared.session.Mode.TheVariants as mode
 use Rattle.pl_cli.specs.Line.{Asked, Word, asked}
 use Rattle.pl_cli.specs.Printed.{refusal_line}
 use Rattle.pl_cli.specs.Script.{IsRefusedAt, IsScript, script_text}

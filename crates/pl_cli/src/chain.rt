@@ -3,7 +3,7 @@
 ghost use Rattle.std.specs.Prelude.{◌≡◌, ◌∷◌, List, ℕ, Ok};
 ghost use Rattle.pl_base.specs.Image.{Image};
 ghost use Rattle.pl_undo.specs.Database.{Database};
-ghost use Rattle.pl_world.specs.Opening.{opens};
+ghost use Rattle.pl_session.specs.pl_world.Opening.{opens};
 ghost use Rattle.pl_cli.specs.Covers.{CoveredRun, IsChain, Known, Ran};
 
 use pl_disk::Host;

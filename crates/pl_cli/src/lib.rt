@@ -11,4 +11,5 @@ pub use chain::joins;
 pub use ending::Ending;
 pub use line::{Line, WordsFail, read_words};
 pub use pl_files::{FileHost, FileSource, Problem};
+pub use pl_session;
 pub use program::{Finish, refuse_words, run};

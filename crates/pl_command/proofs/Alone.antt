@@ -5,14 +5,14 @@ use Rattle.std.specs.Result.{IsErrOf}
 use Rattle.pl_base.specs.declared.fail.Fail.{Fail}
 use Rattle.pl_command.proofs.Mapped.{mapped, mapped_done, mapped_stopped}
 use Rattle.pl_command.specs.Ends.{IsIdle, as_ran}
-use Rattle.pl_engine.proofs.Joins.{Lawful, acted, becomes, on, start, stopped, within}
-use Rattle.pl_engine.proofs.Tells.{untaken}
-use Rattle.pl_engine.specs.Answers.{Done, Partway, Stopped}
-use Rattle.pl_engine.specs.Engines.{Kept, Quiet, kept, world}
-use Rattle.pl_engine.specs.declared.engine.Engine.{Engine}
-use Rattle.pl_engine.specs.declared.port.Port.{Ghosts}
-use Rattle.pl_engine.specs.declared.stop.Stop.{Stop}
-use Rattle.pl_engine.specs.declared.stop.Stop.TheVariants.{Memory}
+use Rattle.pl_control.proofs.of_pl_engine.Joins.{Lawful, acted, becomes, on, start, stopped, within}
+use Rattle.pl_control.proofs.of_pl_engine.Tells.{untaken}
+use Rattle.pl_control.specs.pl_engine.Answers.{Done, Partway, Stopped}
+use Rattle.pl_control.specs.pl_engine.Engines.{Kept, Quiet, kept, world}
+use Rattle.pl_control.specs.pl_engine.declared.engine.Engine.{Engine}
+use Rattle.pl_control.specs.pl_engine.declared.port.Port.{Ghosts}
+use Rattle.pl_control.specs.pl_engine.declared.stop.Stop.{Stop}
+use Rattle.pl_control.specs.pl_engine.declared.stop.Stop.TheVariants.{Memory}
 use Rattle.pl_world.specs.Laws.{end_of}
 use Rattle.pl_world.specs.Sessions.{alone, ended_alone, over}
 use Rattle.pl_world.specs.Transactions.{committed}

@@ -1,11 +1,11 @@
 -- Commands that run a body, and what they answer.
 use Rattle.std.proofs.Common.{◌≡◌, refl}
-use Rattle.pl_engine.proofs.Joins.{Lawful, becomes, ended, on, start, within}
-use Rattle.pl_engine.specs.Answers.{Done, Stopped}
-use Rattle.pl_engine.specs.Engines.{world}
-use Rattle.pl_engine.specs.declared.engine.Engine.{Engine}
-use Rattle.pl_engine.specs.declared.port.Port.{Ghosts}
-use Rattle.pl_engine.specs.declared.stop.Stop.{Stop}
+use Rattle.pl_control.proofs.of_pl_engine.Joins.{Lawful, becomes, ended, on, start, within}
+use Rattle.pl_control.specs.pl_engine.Answers.{Done, Stopped}
+use Rattle.pl_control.specs.pl_engine.Engines.{world}
+use Rattle.pl_control.specs.pl_engine.declared.engine.Engine.{Engine}
+use Rattle.pl_control.specs.pl_engine.declared.port.Port.{Ghosts}
+use Rattle.pl_control.specs.pl_engine.declared.stop.Stop.{Stop}
 use Rattle.pl_print.specs.declared.reply.Tag.{Tag}
 use Rattle.pl_world.specs.Sessions.{ran_body}
 use Rattle.pl_world.specs.World.{Ran, World, and_then, ends}

@@ -4,12 +4,12 @@ use Rattle.pl_base.specs.declared.fail.Fail.{Fail}
 use Rattle.pl_base.specs.declared.state.State.{State}
 use Rattle.pl_command.proofs.Mapped.{mapped, mapped_done, mapped_stopped}
 use Rattle.pl_control.specs.Noted.{Done as Ended, defined, no, yes}
-use Rattle.pl_engine.specs.Answers.{Done, Stopped}
-use Rattle.pl_engine.specs.Engines.{world}
-use Rattle.pl_engine.specs.declared.engine.Engine.{Engine}
-use Rattle.pl_engine.specs.declared.port.Port.{Ghosts}
-use Rattle.pl_engine.specs.declared.stop.Stop.{Stop}
-use Rattle.pl_journal.specs.Definitions.{Behind}
+use Rattle.pl_control.specs.pl_engine.Answers.{Done, Stopped}
+use Rattle.pl_control.specs.pl_engine.Engines.{world}
+use Rattle.pl_control.specs.pl_engine.declared.engine.Engine.{Engine}
+use Rattle.pl_control.specs.pl_engine.declared.port.Port.{Ghosts}
+use Rattle.pl_control.specs.pl_engine.declared.stop.Stop.{Stop}
+use Rattle.pl_world.specs.pl_journal.Definitions.{Behind}
 use Rattle.pl_print.specs.declared.reply.Tag.{Tag}
 use Rattle.pl_tree.specs.declared.command.Definition.{Definition}
 use Rattle.pl_typing.specs.Resolved.{Resolved}

@@ -4,3 +4,4 @@ mod Defined
 mod Mapped
 mod Resolves
 mod Using
+pub use Rattle.pl_control.proofs.of_pl_engine

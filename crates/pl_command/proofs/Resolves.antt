@@ -1,11 +1,11 @@
 -- What a command names is resolved, or is its error.
 use Rattle.std.proofs.Common.{◌≡◌, Ok, Err, ap, refl, subst, sym}
 use Rattle.pl_base.specs.declared.state.State.{State}
-use Rattle.pl_engine.proofs.Joins.{Lawful, acted, becomes, start}
-use Rattle.pl_engine.specs.Answers.{Done, Partway}
-use Rattle.pl_engine.specs.Engines.{Quiet, world}
-use Rattle.pl_engine.specs.declared.engine.Engine.{Engine}
-use Rattle.pl_engine.specs.declared.port.Port.{Ghosts}
+use Rattle.pl_control.proofs.of_pl_engine.Joins.{Lawful, acted, becomes, start}
+use Rattle.pl_control.specs.pl_engine.Answers.{Done, Partway}
+use Rattle.pl_control.specs.pl_engine.Engines.{Quiet, world}
+use Rattle.pl_control.specs.pl_engine.declared.engine.Engine.{Engine}
+use Rattle.pl_control.specs.pl_engine.declared.port.Port.{Ghosts}
 use Rattle.pl_typing.specs.Resolved.{Resolved}
 use Rattle.pl_world.specs.Errors.{Spot, failure, raises, resolves}
 use Rattle.pl_world.specs.Sessions.{failed}

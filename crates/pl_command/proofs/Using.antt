@@ -2,13 +2,13 @@
 use Rattle.std.proofs.Common.{◌≡◌, ◌++◌, List, [], ◌∷◌, Option, Some, None, Result, Ok, Err, append-nil, ap, refl, sym}
 use Rattle.pl_base.specs.declared.fail.Fail.{Fail}
 use Rattle.pl_base.specs.declared.state.State.{State}
-use Rattle.pl_calling.specs.Ends.{settles}
-use Rattle.pl_engine.proofs.Joins.{Lawful, becomes, ended, on, start, stopped, within}
-use Rattle.pl_engine.specs.Answers.{Done, Partway, Stopped}
-use Rattle.pl_engine.specs.Engines.{world}
-use Rattle.pl_engine.specs.declared.engine.Engine.{Engine}
-use Rattle.pl_engine.specs.declared.port.Port.{Ghosts}
-use Rattle.pl_engine.specs.declared.stop.Stop.{Stop}
+use Rattle.pl_control.specs.pl_calling.Ends.{settles}
+use Rattle.pl_control.proofs.of_pl_engine.Joins.{Lawful, becomes, ended, on, start, stopped, within}
+use Rattle.pl_control.specs.pl_engine.Answers.{Done, Partway, Stopped}
+use Rattle.pl_control.specs.pl_engine.Engines.{world}
+use Rattle.pl_control.specs.pl_engine.declared.engine.Engine.{Engine}
+use Rattle.pl_control.specs.pl_engine.declared.port.Port.{Ghosts}
+use Rattle.pl_control.specs.pl_engine.declared.stop.Stop.{Stop}
 use Rattle.pl_value.specs.Reading.{Reading, got, fails}
 use Rattle.pl_world.specs.Calls.{Within}
 use Rattle.pl_world.specs.Errors.{Spot, as_run_state, failure}

@@ -3,7 +3,7 @@ use Rattle.std.specs.Prelude.{List, Some, None}
 use Rattle.pl_world.specs.Selection.{grid_of, heads_of}
 use Rattle.pl_resolved.specs.declared.query.Head.{Head}
 use Rattle.pl_resolved.specs.declared.query.RQuery.{RQuery}
-use Rattle.pl_targets.specs.declared.change.RChange.{RChange}
+use Rattle.pl_altering.specs.pl_targets.declared.change.RChange.{RChange}
 use Rattle.pl_value.specs.Frames.{Row}
 use Rattle.pl_world.specs.Changes.{changed}
 use Rattle.pl_world.specs.Commands.{finished}

@@ -4,11 +4,11 @@ ghost use Rattle.std.specs.Prelude.{◌≡◌, ◌≤◌, [], IfOk, IsErrOf, OnO
 ghost use Rattle.pl_command.specs.Ends.{IsIdle, as_ran};
 ghost use Rattle.pl_command.specs.Lines.{lines_of};
 ghost use Rattle.pl_command.specs.Replied.{replied};
-ghost use Rattle.pl_engine.specs.Answers.{Answers, Stopped};
-ghost use Rattle.pl_engine.specs.Engines.{kept, world};
-ghost use Rattle.pl_engine.specs.Runs.{Runs};
-ghost use Rattle.pl_engine.specs.Texts.{do_bodies};
-ghost use Rattle.pl_engine.specs.declared.stop.Stop.TheVariants.{Memory as WantOfMemory};
+ghost use Rattle.pl_control.specs.pl_engine.Answers.{Answers, Stopped};
+ghost use Rattle.pl_control.specs.pl_engine.Engines.{kept, world};
+ghost use Rattle.pl_control.specs.pl_engine.Runs.{Runs};
+ghost use Rattle.pl_control.specs.pl_engine.Texts.{do_bodies};
+ghost use Rattle.pl_control.specs.pl_engine.declared.stop.Stop.TheVariants.{Memory as WantOfMemory};
 ghost use Rattle.pl_reading.specs.Computed.{CommandMeansAlike};
 ghost use Rattle.pl_world.specs.Errors.{failure};
 ghost use Rattle.pl_world.specs.Sessions.{alone, command_done, failed, top};
@@ -19,7 +19,7 @@ use crate::performing::perform;
 use crate::replies::{fails, reply_lines};
 use crate::settling::settle;
 use pl_base::{Bytes, Memory, State};
-use pl_engine::{BodyRunner, Engine, Port, Runner, Stop, Task};
+use pl_control::pl_engine::{BodyRunner, Engine, Port, Runner, Stop, Task};
 use pl_tree::Command;
 use pl_world::{Outcome, Reply};
 

@@ -2,9 +2,9 @@
 
 ghost use Rattle.std.specs.Prelude.{◌≡◌, ◌≤◌, IfOk, OnOk};
 ghost use Rattle.pl_command.specs.Shown.{made_change, shows_change};
-ghost use Rattle.pl_engine.specs.Answers.{Answers};
-ghost use Rattle.pl_engine.specs.Engines.{Quiet, kept, world};
-ghost use Rattle.pl_engine.specs.Texts.{do_bodies};
+ghost use Rattle.pl_control.specs.pl_engine.Answers.{Answers};
+ghost use Rattle.pl_control.specs.pl_engine.Engines.{Quiet, kept, world};
+ghost use Rattle.pl_control.specs.pl_engine.Texts.{do_bodies};
 ghost use Rattle.pl_world.specs.Changing as changing;
 ghost use Rattle.pl_world.specs.Sessions as spec;
 ghost use Rattle.pl_world.specs.Statements.{runner_for};
@@ -13,12 +13,12 @@ use crate::grids::{grid_of, has_long};
 use crate::replies::{failed, fails, top};
 use crate::resolving::change_of;
 use pl_altering::change;
+use pl_altering::pl_targets::{RChange, RWhat};
 use pl_base::{Cells, List, Memory, State};
 use pl_bodies::Change;
-use pl_engine::{BodyRunner, Calls, Engine, Port, Stop};
+use pl_control::pl_engine::{BodyRunner, Calls, Engine, Port, Stop};
 use pl_print::{Grid, Tag};
 use pl_resolved::Head;
-use pl_targets::{RChange, RWhat};
 use pl_typing::ScopeFail;
 use pl_world::Reply;
 use std::alloc::Global;

@@ -1,8 +1,8 @@
 //! CREATE and DROP.
 
 ghost use Rattle.std.specs.Prelude.{◌≡◌, OnOk};
-ghost use Rattle.pl_engine.specs.Answers.{Answers};
-ghost use Rattle.pl_engine.specs.Engines.{kept, world};
+ghost use Rattle.pl_control.specs.pl_engine.Answers.{Answers};
+ghost use Rattle.pl_control.specs.pl_engine.Engines.{kept, world};
 ghost use Rattle.pl_world.specs.Meaning as meaning;
 ghost use Rattle.pl_reading.specs.Computed.{definition_in};
 ghost use Rattle.pl_reading.specs.Defining.{stored_by};
@@ -12,7 +12,7 @@ ghost use Rattle.pl_world.specs.Sessions as spec;
 use crate::replies::{failed, tagged, top};
 use pl_base::Txt;
 use pl_control::define;
-use pl_engine::{Engine, Port, Stop};
+use pl_control::pl_engine::{Engine, Port, Stop};
 use pl_print::Tag;
 use pl_tree::{Definition, RoutineKind};
 use pl_world::Reply;

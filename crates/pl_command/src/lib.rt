@@ -16,5 +16,7 @@ mod settling;
 
 pub use answers::{Answer, command, refuse};
 pub use performing::perform;
+pub use pl_control::pl_engine;
+pub use pl_world;
 pub use replies::reply_lines;
 pub use settling::settle;

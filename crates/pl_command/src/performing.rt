@@ -2,10 +2,10 @@
 
 ghost use Rattle.std.specs.Prelude.{◌≡◌, ◌≤◌, OnOk};
 ghost use Rattle.pl_command.specs.Shown.{no_reply};
-ghost use Rattle.pl_engine.specs.Answers.{Answers};
-ghost use Rattle.pl_engine.specs.Engines.{kept, world};
-ghost use Rattle.pl_engine.specs.Runs.{Runs};
-ghost use Rattle.pl_engine.specs.Texts.{do_bodies};
+ghost use Rattle.pl_control.specs.pl_engine.Answers.{Answers};
+ghost use Rattle.pl_control.specs.pl_engine.Engines.{kept, world};
+ghost use Rattle.pl_control.specs.pl_engine.Runs.{Runs};
+ghost use Rattle.pl_control.specs.pl_engine.Texts.{do_bodies};
 ghost use Rattle.pl_reading.specs.Computed.{CommandMeansAlike};
 ghost use Rattle.pl_world.specs.Sessions.{command_done};
 ghost use Rattle.pl_world.specs.Statements.{runner_for};
@@ -15,7 +15,7 @@ use crate::defining::carry_out;
 use crate::running::{run_procedure, run_text};
 use crate::selecting::select;
 use pl_bodies::Change;
-use pl_engine::{BodyRunner, Calls, Engine, Port, Runner, Stop, Task};
+use pl_control::pl_engine::{BodyRunner, Calls, Engine, Port, Runner, Stop, Task};
 use pl_tree::Command;
 use pl_world::{Outcome, Reply};
 

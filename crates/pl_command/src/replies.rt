@@ -2,14 +2,14 @@
 
 ghost use Rattle.std.specs.Prelude.{◌≡◌, ◌++◌, IfOk};
 ghost use Rattle.pl_command.specs.Lines.{lines_of};
-ghost use Rattle.pl_engine.specs.Engines.{world};
+ghost use Rattle.pl_control.specs.pl_engine.Engines.{world};
 ghost use Rattle.pl_world.specs.Errors.{failure};
 ghost use Rattle.pl_world.specs.Scripts as scripts;
 ghost use Rattle.pl_world.specs.Sessions as spec;
 ghost use Rattle.pl_world.specs.World.{World, ends};
 
 use pl_base::{Bytes, Fail, Memory, State};
-use pl_engine::{Engine, Spot};
+use pl_control::pl_engine::{Engine, Spot};
 use pl_print::{Grid, Tag};
 use pl_world::{Outcome, Reply};
 use std::alloc::Global;

@@ -1,15 +1,15 @@
 //! What commands resolve, in no routine.
 
-ghost use Rattle.pl_engine.specs.Engines.{world};
+ghost use Rattle.pl_control.specs.pl_engine.Engines.{world};
 ghost use Rattle.pl_typing.specs.Resolved.{Gives};
 ghost use Rattle.pl_world.specs.Resolving as spec;
 
+use pl_altering::pl_targets::{RChange, resolve_delete, resolve_insert, resolve_update};
 use pl_base::{Held, List};
 use pl_bodies::Change;
-use pl_engine::Engine;
+use pl_control::pl_engine::Engine;
 use pl_resolved::RQuery;
 use pl_scope::resolve_query;
-use pl_targets::{RChange, resolve_delete, resolve_insert, resolve_update};
 use pl_tree::Query;
 use pl_typing::ScopeFail;
 

@@ -2,10 +2,10 @@
 
 ghost use Rattle.std.specs.Prelude.{◌≡◌, ◌≤◌, OnOk};
 ghost use Rattle.pl_control.specs.Called.{Names};
-ghost use Rattle.pl_engine.specs.Answers.{Answers};
-ghost use Rattle.pl_engine.specs.Engines.{kept, world};
-ghost use Rattle.pl_engine.specs.Runs.{Runs};
-ghost use Rattle.pl_engine.specs.Texts.{do_bodies};
+ghost use Rattle.pl_control.specs.pl_engine.Answers.{Answers};
+ghost use Rattle.pl_control.specs.pl_engine.Engines.{kept, world};
+ghost use Rattle.pl_control.specs.pl_engine.Runs.{Runs};
+ghost use Rattle.pl_control.specs.pl_engine.Texts.{do_bodies};
 ghost use Rattle.pl_print.specs.declared.reply.Tag.TheVariants as tag;
 ghost use Rattle.pl_world.specs.Resolving.{Calling};
 ghost use Rattle.pl_world.specs.Sessions as spec;
@@ -15,8 +15,8 @@ ghost use Rattle.pl_world.specs.World.{and_then};
 
 use crate::replies::{fails, ran_body, top};
 use pl_base::{Name, Txt};
+use pl_control::pl_engine::{BodyRunner, Engine, Port, Runner, Stop, Task};
 use pl_control::{Procedure, call_procedure, do_text, resolve_call};
-use pl_engine::{BodyRunner, Engine, Port, Runner, Stop, Task};
 use pl_print::Tag;
 use pl_tree::Argument;
 use pl_typing::ScopeFail;

@@ -1,9 +1,9 @@
 //! SELECT.
 
 ghost use Rattle.std.specs.Prelude.{◌≡◌, ◌≤◌, IfOk, OnOk};
-ghost use Rattle.pl_engine.specs.Answers.{Answers};
-ghost use Rattle.pl_engine.specs.Engines.{Quiet, kept, world};
-ghost use Rattle.pl_engine.specs.Texts.{do_bodies};
+ghost use Rattle.pl_control.specs.pl_engine.Answers.{Answers};
+ghost use Rattle.pl_control.specs.pl_engine.Engines.{Quiet, kept, world};
+ghost use Rattle.pl_control.specs.pl_engine.Texts.{do_bodies};
 ghost use Rattle.pl_command.specs.Shown.{selected, shows};
 ghost use Rattle.pl_world.specs.Sessions as spec;
 ghost use Rattle.pl_world.specs.Statements.{runner_for};
@@ -12,8 +12,8 @@ use crate::grids::{grid_of, has_long, heads_of};
 use crate::replies::{failed, fails, top};
 use crate::resolving::query_of;
 use pl_base::{Cells, List, Memory, State};
-use pl_calling::query;
-use pl_engine::{BodyRunner, Calls, Engine, Port, Stop};
+use pl_control::pl_calling::query;
+use pl_control::pl_engine::{BodyRunner, Calls, Engine, Port, Stop};
 use pl_resolved::{Head, RQuery};
 use pl_tree::Query;
 use pl_typing::ScopeFail;

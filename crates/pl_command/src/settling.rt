@@ -2,13 +2,13 @@
 
 ghost use Rattle.std.specs.Prelude.{◌≡◌, [], IsErrOf, OnOk};
 ghost use Rattle.pl_command.specs.Ends.{IsIdle, as_ran};
-ghost use Rattle.pl_engine.specs.Answers.{Answers};
-ghost use Rattle.pl_engine.specs.Engines.{kept, world};
-ghost use Rattle.pl_engine.specs.declared.stop.Stop.TheVariants.{Memory as WantOfMemory};
+ghost use Rattle.pl_control.specs.pl_engine.Answers.{Answers};
+ghost use Rattle.pl_control.specs.pl_engine.Engines.{kept, world};
+ghost use Rattle.pl_control.specs.pl_engine.declared.stop.Stop.TheVariants.{Memory as WantOfMemory};
 ghost use Rattle.pl_world.specs.Sessions.{alone};
 ghost use Rattle.pl_world.specs.World.{ends};
 
-use pl_engine::{Engine, Port, Stop, commit};
+use pl_control::pl_engine::{Engine, Port, Stop, commit};
 use pl_world::Reply;
 
 /// Commits what a command did that answers this, or goes back to the last commit where it failed.

@@ -6,3 +6,4 @@ mod matching;
 
 pub use codes::{code_of, code_or_name};
 pub use matching::matches_one;
+pub use pl_world;

@@ -3,9 +3,9 @@ use Rattle.std.proofs.Common.{◌≡◌, ◌∙◌, ℕ, true, List, [], Option,
 use Rattle.pl_base.specs.declared.state.State.{State}
 use Rattle.pl_base.specs.declared.value.Value.{Value}
 use Rattle.pl_bodies.specs.declared.statement.Body.{Body}
-use Rattle.pl_calling.proofs.Entered.{entered_is, whole}
-use Rattle.pl_calling.specs.Called.{IsCallee}
-use Rattle.pl_calling.specs.declared.callee.Found.{Found}
+use Rattle.pl_asking.proofs.of_pl_calling.Entered.{entered_is, whole}
+use Rattle.pl_asking.specs.pl_calling.Called.{IsCallee}
+use Rattle.pl_asking.specs.pl_calling.declared.callee.Found.{Found}
 use Rattle.pl_engine.proofs.Joins.{Lawful, becomes, before, ended, on, quietly, start, stopped, within}
 use Rattle.pl_engine.specs.Answers.{Done, Partway, Stopped}
 use Rattle.pl_engine.specs.Engines.{with_call, world}
@@ -16,14 +16,14 @@ use Rattle.pl_engine.specs.declared.stop.Stop.{Stop}
 use Rattle.pl_engine.specs.declared.stop.Stop.TheVariants.{Memory}
 use Rattle.pl_names.specs.Names.{Name}
 use Rattle.pl_typing.specs.Resolved.{Resolved}
-use Rattle.pl_world.specs.Calls.{Callee, called, left, nameless}
-use Rattle.pl_world.specs.Errors.{Spot, raises}
-use Rattle.pl_world.specs.Running.{Runner, body}
-use Rattle.pl_world.specs.Statements.{run_within}
-use Rattle.pl_world.specs.Transactions.{after_call, body_read, does, does_body, unread}
-use Rattle.pl_world.specs.World.{Ran, World, and_then, ends}
-use Rattle.pl_world.specs.declared.outcome.Outcome.{Outcome}
-use Rattle.pl_world.specs.declared.outcome.Outcome.TheVariants as outcome
+use Rattle.pl_engine.specs.pl_world.Calls.{Callee, called, left, nameless}
+use Rattle.pl_engine.specs.pl_world.Errors.{Spot, raises}
+use Rattle.pl_engine.specs.pl_world.Running.{Runner, body}
+use Rattle.pl_engine.specs.pl_world.Statements.{run_within}
+use Rattle.pl_engine.specs.pl_world.Transactions.{after_call, body_read, does, does_body, unread}
+use Rattle.pl_engine.specs.pl_world.World.{Ran, World, and_then, ends}
+use Rattle.pl_engine.specs.pl_world.declared.outcome.Outcome.{Outcome}
+use Rattle.pl_engine.specs.pl_world.declared.outcome.Outcome.TheVariants as outcome
 
 -- ---- a call that was entered, and doesn't come to its end
 

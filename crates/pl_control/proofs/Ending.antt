@@ -4,11 +4,11 @@ use Rattle.std.proofs.lemmas.List.{nil_from_length}
 use Rattle.pl_base.specs.States.{INVALID_TRANSACTION_TERMINATION}
 use Rattle.pl_engine.specs.Engines.{Quiet, kept, world}
 use Rattle.pl_engine.specs.declared.engine.Engine.{Engine}
-use Rattle.pl_world.specs.Errors.{Spot, raised}
-use Rattle.pl_world.specs.Transactions.{are_commands, commits, committed, may_commit, reset, rolls_back}
-use Rattle.pl_world.specs.World.{Began, Ran, World, a_rollback, behind, made}
-use Rattle.pl_world.specs.declared.outcome.Outcome.{Outcome}
-use Rattle.pl_world.specs.declared.outcome.Outcome.TheVariants as outcome
+use Rattle.pl_engine.specs.pl_world.Errors.{Spot, raised}
+use Rattle.pl_engine.specs.pl_world.Transactions.{are_commands, commits, committed, may_commit, reset, rolls_back}
+use Rattle.pl_engine.specs.pl_world.World.{Began, Ran, World, a_rollback, behind, made}
+use Rattle.pl_engine.specs.pl_world.declared.outcome.Outcome.{Outcome}
+use Rattle.pl_engine.specs.pl_world.declared.outcome.Outcome.TheVariants as outcome
 
 commits_if : (at : Spot) (w : World) (b : Bool) → may_commit w ≡ b → commits at w ≡ (if b then committed w else raised INVALID_TRANSACTION_TERMINATION at w)
 unfolding commits

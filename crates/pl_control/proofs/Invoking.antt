@@ -2,8 +2,8 @@
 use Rattle.std.proofs.Common.{◌≡◌, ◌∙◌, List, Ok, Err, ap, refl, sym, true}
 use Rattle.pl_base.specs.declared.fail.Fail.{Fail}
 use Rattle.pl_base.specs.declared.value.Value.{Value}
-use Rattle.pl_calling.proofs.Settled.{read_off, read_on, read_stops}
-use Rattle.pl_calling.specs.Ends.{settles}
+use Rattle.pl_asking.proofs.of_pl_calling.Settled.{read_off, read_on, read_stops}
+use Rattle.pl_asking.specs.pl_calling.Ends.{settles}
 use Rattle.pl_control.specs.Called.{Names}
 use Rattle.pl_control.specs.declared.arguments.Procedure.{Procedure}
 use Rattle.pl_engine.proofs.Joins.{Lawful, becomes, ended, on, stopped, within}
@@ -15,15 +15,15 @@ use Rattle.pl_engine.specs.declared.stop.Stop.{Stop}
 use Rattle.pl_names.specs.Names.{Name}
 use Rattle.pl_resolved.specs.declared.expression.RExpr.{RExpr}
 use Rattle.pl_value.specs.Reading.{Reading}
-use Rattle.pl_world.specs.Calls.{Within, called_by_name}
-use Rattle.pl_world.specs.Errors.{Spot}
-use Rattle.pl_world.specs.Expressions.{read}
-use Rattle.pl_world.specs.Resolving.{Calling}
-use Rattle.pl_world.specs.Running.{Runner}
-use Rattle.pl_world.specs.Transactions.{after_call, arguments_over, procedure_called}
-use Rattle.pl_world.specs.World.{Ran, World, and_then, ends}
-use Rattle.pl_world.specs.declared.outcome.Outcome.{Outcome}
-use Rattle.pl_world.specs.declared.outcome.Outcome.TheVariants as outcome
+use Rattle.pl_engine.specs.pl_world.Calls.{Within, called_by_name}
+use Rattle.pl_engine.specs.pl_world.Errors.{Spot}
+use Rattle.pl_engine.specs.pl_world.Expressions.{read}
+use Rattle.pl_engine.specs.pl_world.Resolving.{Calling}
+use Rattle.pl_engine.specs.pl_world.Running.{Runner}
+use Rattle.pl_engine.specs.pl_world.Transactions.{after_call, arguments_over, procedure_called}
+use Rattle.pl_engine.specs.pl_world.World.{Ran, World, and_then, ends}
+use Rattle.pl_engine.specs.pl_world.declared.outcome.Outcome.{Outcome}
+use Rattle.pl_engine.specs.pl_world.declared.outcome.Outcome.TheVariants as outcome
 
 module _ (r : Runner) (at : Spot) where
   -- the routine of this name is called with these values

@@ -24,8 +24,8 @@ use Rattle.pl_typing.specs.Resolved.{Gives, Resolved, ◌>>=◌}
 use Rattle.pl_typing.specs.declared.calls.Arguments.{Arguments}
 use Rattle.pl_typing.specs.declared.fail.ScopeFail.{ScopeFail}
 use Rattle.pl_typing.specs.declared.fail.ScopeFail.TheVariants as scope
-use Rattle.pl_world.specs.Resolving.{Calling, arguments_of, arguments_read, as_procedure, calling, procedure, without_queries}
-use Rattle.pl_world.specs.World.{Static}
+use Rattle.pl_engine.specs.pl_world.Resolving.{Calling, arguments_of, arguments_read, as_procedure, calling, procedure, without_queries}
+use Rattle.pl_engine.specs.pl_world.World.{Static}
 
 -- ---- the arguments are read first
 

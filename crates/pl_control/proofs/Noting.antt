@@ -12,22 +12,22 @@ use Rattle.pl_engine.specs.Engines.{Quiet, world}
 use Rattle.pl_engine.specs.declared.engine.Engine.{Engine}
 use Rattle.pl_engine.specs.declared.port.Port.{Ghosts}
 use Rattle.pl_engine.specs.declared.stop.Stop.{Stop}
-use Rattle.pl_journal.specs.Definitions.{Behind}
-use Rattle.pl_journal.specs.Definitions.{behind as leads}
-use Rattle.pl_world.specs.Replies.{notice_line}
+use Rattle.pl_engine.specs.pl_journal.Definitions.{Behind}
+use Rattle.pl_engine.specs.pl_journal.Definitions.{behind as leads}
+use Rattle.pl_engine.specs.pl_world.Replies.{notice_line}
 use Rattle.pl_print.specs.Messages.{condition_name, labelled, message_text, notice_bytes}
 use Rattle.pl_print.specs.declared.reply.Level.TheVariants.{Notice}
 use Rattle.pl_reading.specs.Defining.{stored_by}
 use Rattle.pl_tree.specs.declared.command.Definition.{Definition}
 use Rattle.pl_typing.specs.Resolved.{Resolved}
 use Rattle.pl_undo.specs.Database.{Database}
-use Rattle.pl_world.specs.Commands.{defines, defining, noticed, with_database}
-use Rattle.pl_world.specs.Errors.{Spot, failure, resolves}
-use Rattle.pl_world.specs.Laws.{events}
-use Rattle.pl_world.specs.Raising.{printed}
-use Rattle.pl_world.specs.World.{Began, Raised, Ran, Said, World, a_definition, behind, ends, made}
-use Rattle.pl_world.specs.declared.outcome.Outcome.{Outcome}
-use Rattle.pl_world.specs.declared.outcome.Outcome.TheVariants as outcome
+use Rattle.pl_engine.specs.pl_world.Commands.{defines, defining, noticed, with_database}
+use Rattle.pl_engine.specs.pl_world.Errors.{Spot, failure, resolves}
+use Rattle.pl_engine.specs.pl_world.Laws.{events}
+use Rattle.pl_engine.specs.pl_world.Raising.{printed}
+use Rattle.pl_engine.specs.pl_world.World.{Began, Raised, Ran, Said, World, a_definition, behind, ends, made}
+use Rattle.pl_engine.specs.pl_world.declared.outcome.Outcome.{Outcome}
+use Rattle.pl_engine.specs.pl_world.declared.outcome.Outcome.TheVariants as outcome
 
 -- ---- texts that can be stored
 

@@ -1,15 +1,15 @@
 -- The routine of a command, as the code holds it, and the arguments with which it is called.
 use Rattle.std.specs.Prelude.{◌≡◌, true, Result, Ok, Err}
 use Rattle.pl_bodies.specs.declared.statement.Body.{Body}
-use Rattle.pl_calling.specs.Called.{IsCallee}
-use Rattle.pl_calling.specs.declared.callee.Found.{Found}
+use Rattle.pl_asking.specs.pl_calling.Called.{IsCallee}
+use Rattle.pl_asking.specs.pl_calling.declared.callee.Found.{Found}
 use Rattle.pl_control.specs.declared.arguments.Procedure.{Procedure}
 use Rattle.pl_control.specs.declared.callees.Called.{Called}
 use Rattle.pl_typing.specs.Resolved.{Resolved}
 use Rattle.pl_typing.specs.declared.fail.ScopeFail.{ScopeFail}
 use Rattle.pl_typing.specs.declared.fail.ScopeFail.TheVariants.{State, Memory}
-use Rattle.pl_world.specs.Calls.{Callee}
-use Rattle.pl_world.specs.Resolving.{Calling}
+use Rattle.pl_engine.specs.pl_world.Calls.{Callee}
+use Rattle.pl_engine.specs.pl_world.Resolving.{Calling}
 
 -- what is called, with its body
 abbrev pub found_of : Called → Body → Found

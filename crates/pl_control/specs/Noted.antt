@@ -3,9 +3,9 @@ use Rattle.std.specs.Prelude.{ℕ, List, Option, Result, Ok, Err}
 use Rattle.pl_base.specs.declared.fail.Fail.{Fail}
 use Rattle.pl_base.specs.declared.state.State.{State}
 use Rattle.pl_tree.specs.declared.command.Definition.{Definition}
-use Rattle.pl_world.specs.Commands.{defines, noticed}
-use Rattle.pl_world.specs.Errors.{Spot}
-use Rattle.pl_world.specs.World.{World, Ran}
+use Rattle.pl_engine.specs.pl_world.Commands.{defines, noticed}
+use Rattle.pl_engine.specs.pl_world.Errors.{Spot}
+use Rattle.pl_engine.specs.pl_world.World.{World, Ran}
 
 -- it is done, or has an error
 abbrev pub Done : Type 0

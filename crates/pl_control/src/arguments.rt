@@ -11,7 +11,7 @@ ghost use Rattle.pl_scope.specs.Expressions as scope;
 ghost use Rattle.pl_scope.specs.Resolution.{argument_part, standing};
 ghost use Rattle.pl_typing.specs.Calls.{no_arguments};
 ghost use Rattle.pl_typing.specs.Resolved.{Gives};
-ghost use Rattle.pl_world.specs.Resolving as spec;
+ghost use Rattle.pl_engine.specs.pl_world.Resolving as spec;
 
 use pl_base::{List, Name, State, Ty};
 use pl_catalog::Routine;

@@ -6,18 +6,18 @@ ghost use Rattle.pl_engine.specs.Answers.{Answers};
 ghost use Rattle.pl_engine.specs.Engines.{kept, world};
 ghost use Rattle.pl_engine.specs.Runs.{Runs};
 ghost use Rattle.pl_engine.specs.Texts.{do_bodies};
-ghost use Rattle.pl_world.specs.Calls as spec;
-ghost use Rattle.pl_world.specs.Running.{body};
-ghost use Rattle.pl_world.specs.Statements.{run_within, runner_for};
-ghost use Rattle.pl_world.specs.Transactions.{after_call};
-ghost use Rattle.pl_world.specs.World.{World, and_then, ends};
+ghost use Rattle.pl_engine.specs.pl_world.Calls as spec;
+ghost use Rattle.pl_engine.specs.pl_world.Running.{body};
+ghost use Rattle.pl_engine.specs.pl_world.Statements.{run_within, runner_for};
+ghost use Rattle.pl_engine.specs.pl_world.Transactions.{after_call};
+ghost use Rattle.pl_engine.specs.pl_world.World.{World, and_then, ends};
 
+use pl_asking::pl_calling::{MOST_CALLS, given};
 use pl_base::{List, Name, State, Ty, Value};
 use pl_bodies::Body;
-use pl_calling::{MOST_CALLS, given};
-use pl_declared::Static;
+use pl_engine::pl_declared::Static;
+use pl_engine::pl_world::Outcome;
 use pl_engine::{Engine, Port, Runner, Spot, Stop, Task};
-use pl_world::Outcome;
 
 /// What is called by a command, beside its body.
 #[derive(Drop)]

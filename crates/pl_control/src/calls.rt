@@ -5,14 +5,14 @@ ghost use Rattle.pl_engine.specs.Answers.{Answers};
 ghost use Rattle.pl_engine.specs.Engines.{kept, world};
 ghost use Rattle.pl_engine.specs.Runs.{Runs};
 ghost use Rattle.pl_engine.specs.Texts.{do_bodies};
-ghost use Rattle.pl_world.specs.Calls as spec;
-ghost use Rattle.pl_world.specs.Statements.{runner_for};
+ghost use Rattle.pl_engine.specs.pl_world.Calls as spec;
+ghost use Rattle.pl_engine.specs.pl_world.Statements.{runner_for};
 
 use crate::callees::{Called, run_called};
+use pl_asking::pl_calling::{Found, find};
 use pl_base::{List, Name, State, Value};
-use pl_calling::{Found, find};
+use pl_engine::pl_world::Outcome;
 use pl_engine::{Engine, Port, Runner, Spot, Stop, Task};
-use pl_world::Outcome;
 
 /// The procedure of this name is called with these values. XX000 where there is none now that takes
 /// so many.

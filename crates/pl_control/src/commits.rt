@@ -3,11 +3,11 @@
 ghost use Rattle.std.specs.Prelude.{◌≡◌, OnOk};
 ghost use Rattle.pl_engine.specs.Answers.{Answers};
 ghost use Rattle.pl_engine.specs.Engines.{Quiet, kept, world};
-ghost use Rattle.pl_world.specs.Transactions as spec;
+ghost use Rattle.pl_engine.specs.pl_world.Transactions as spec;
 
 use pl_base::State;
+use pl_engine::pl_world::Outcome;
 use pl_engine::{Engine, Port, Spot, Stop};
-use pl_world::Outcome;
 
 /// COMMIT. 2D000 where a running call is no CALL and no DO, a block with handlers runs its
 /// statements, or the session is in a transaction block.

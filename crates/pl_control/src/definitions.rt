@@ -8,17 +8,17 @@ ghost use Rattle.pl_engine.specs.Engines.{kept, world};
 ghost use Rattle.pl_engine.specs.declared.stop.Stop.TheVariants.{Memory as WantOfMemory};
 ghost use Rattle.pl_reading.specs.Computed.{definition_in};
 ghost use Rattle.pl_reading.specs.Defining.{stored_by};
-ghost use Rattle.pl_world.specs.Commands.{defines};
-ghost use Rattle.pl_world.specs.declared.outcome.Outcome.TheVariants as outcome;
+ghost use Rattle.pl_engine.specs.pl_world.Commands.{defines};
+ghost use Rattle.pl_engine.specs.pl_world.declared.outcome.Outcome.TheVariants as outcome;
 
 use crate::notices::note;
 use pl_base::{Fail, Held, State, Txt};
 use pl_codec::is_define_text;
+use pl_engine::pl_world::Outcome;
 use pl_engine::{Engine, Port, Spot, Stop};
 use pl_reading::read_definition;
 use pl_tree::Definition;
 use pl_typing::ScopeFail;
-use pl_world::Outcome;
 
 // Carries out a definition that its text is read as.
 fn carry_out<P: Port>(

@@ -4,7 +4,7 @@ ghost use Rattle.std.specs.Prelude.{◌≡◌, IfOk};
 ghost use Rattle.pl_control.specs.Noted.{notes};
 ghost use Rattle.pl_engine.specs.Answers.{Answers};
 ghost use Rattle.pl_engine.specs.Engines.{world};
-ghost use Rattle.pl_world.specs.Replies.{notice_line};
+ghost use Rattle.pl_engine.specs.pl_world.Replies.{notice_line};
 
 use pl_base::{Bytes, Fail, Memory, State};
 use pl_engine::{Engine, Port, Spot, Stop, message_text, say};

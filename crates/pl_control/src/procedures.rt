@@ -6,20 +6,20 @@ ghost use Rattle.pl_engine.specs.Answers.{Answers};
 ghost use Rattle.pl_engine.specs.Engines.{kept, world};
 ghost use Rattle.pl_engine.specs.Runs.{Runs};
 ghost use Rattle.pl_engine.specs.Texts.{do_bodies};
-ghost use Rattle.pl_world.specs.Errors.{resolved};
-ghost use Rattle.pl_world.specs.Resolving.{Calling, calling};
-ghost use Rattle.pl_world.specs.Statements.{runner_for};
-ghost use Rattle.pl_world.specs.Transactions as spec;
+ghost use Rattle.pl_engine.specs.pl_world.Errors.{resolved};
+ghost use Rattle.pl_engine.specs.pl_world.Resolving.{Calling, calling};
+ghost use Rattle.pl_engine.specs.pl_world.Statements.{runner_for};
+ghost use Rattle.pl_engine.specs.pl_world.Transactions as spec;
 
 use crate::arguments::{Procedure, resolve_call};
 use crate::callees::call_end;
 use crate::calls::call_by_name;
+use pl_asking::pl_calling::evaluate_all;
 use pl_base::Name;
-use pl_calling::evaluate_all;
+use pl_engine::pl_world::Outcome;
 use pl_engine::{BodyRunner, Calls, Engine, Port, Runner, Spot, Stop, Task};
 use pl_tree::Argument;
 use pl_typing::ScopeFail;
-use pl_world::Outcome;
 
 /// A procedure is called: its arguments are read from left to right, and then its body runs.
 pub fn call_procedure<P: Port, F, R: BodyRunner>(

@@ -6,20 +6,20 @@ ghost use Rattle.pl_engine.specs.Engines.{kept, world};
 ghost use Rattle.pl_engine.specs.Runs.{Runs};
 ghost use Rattle.pl_engine.specs.Texts.{do_bodies};
 ghost use Rattle.pl_typing.specs.Resolved.{Gives};
-ghost use Rattle.pl_world.specs.Calls.{called, nameless};
-ghost use Rattle.pl_world.specs.Statements.{runner_for};
-ghost use Rattle.pl_world.specs.Transactions as spec;
-ghost use Rattle.pl_world.specs.World.{and_then};
+ghost use Rattle.pl_engine.specs.pl_world.Calls.{called, nameless};
+ghost use Rattle.pl_engine.specs.pl_world.Statements.{runner_for};
+ghost use Rattle.pl_engine.specs.pl_world.Transactions as spec;
+ghost use Rattle.pl_engine.specs.pl_world.World.{and_then};
 
 use crate::callees::{Called, call_end, run_called};
 use pl_base::{Fail, Held, List, Message, Name, Origin, Place, State, Txt};
 use pl_bodies::Body;
-use pl_declared::Static;
-use pl_define::read_do_text;
+use pl_engine::pl_declared::Static;
+use pl_engine::pl_define::read_do_text;
+use pl_engine::pl_world::Outcome;
 use pl_engine::{Engine, Port, Runner, Spot, Stop, Task};
 use pl_typing::ScopeFail;
 use pl_waiting::waits;
-use pl_world::Outcome;
 use std::alloc::Global;
 
 // The error that a DO has before it runs.

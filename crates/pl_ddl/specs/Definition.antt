@@ -28,7 +28,7 @@ use Rattle.pl_tree.specs.declared.command.Definition.TheVariants as definition
 use Rattle.pl_tree.specs.declared.command.Element.{Element}
 use Rattle.pl_tree.specs.declared.command.NewTable.{NewTable}
 use Rattle.pl_tree.specs.declared.tree.Expr.{Expr}
-use Rattle.pl_typing.specs.Resolved.{Resolved, ◌>>=◌}
+use Rattle.pl_assigning.specs.pl_typing.Resolved.{Resolved, ◌>>=◌}
 
 -- ---- what the table is
 

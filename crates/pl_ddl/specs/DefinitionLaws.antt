@@ -22,7 +22,7 @@ use Rattle.pl_tree.specs.declared.command.Definition.{Definition}
 use Rattle.pl_tree.specs.declared.command.Definition.TheVariants as definition
 use Rattle.pl_tree.specs.declared.command.Element.{Element}
 use Rattle.pl_tree.specs.declared.command.NewTable.{NewTable}
-use Rattle.pl_typing.specs.Resolved.{Resolved, ◌>>=◌}
+use Rattle.pl_assigning.specs.pl_typing.Resolved.{Resolved, ◌>>=◌}
 
 -- ---- what goes on goes on from what was given
 

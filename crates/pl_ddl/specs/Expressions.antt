@@ -24,8 +24,8 @@ use Rattle.pl_tree.specs.declared.command.Element.TheVariants as element
 use Rattle.pl_tree.specs.declared.command.TableRule.{TableRule}
 use Rattle.pl_tree.specs.declared.command.TableRule.TheVariants as whole
 use Rattle.pl_tree.specs.declared.tree.Expr.{Expr}
-use Rattle.pl_typing.specs.Resolved.{Resolved, ◌>>=◌}
-use Rattle.pl_typing.specs.Typing.{truth}
+use Rattle.pl_assigning.specs.pl_typing.Resolved.{Resolved, ◌>>=◌}
+use Rattle.pl_assigning.specs.pl_typing.Typing.{truth}
 
 -- ---- where they stand
 

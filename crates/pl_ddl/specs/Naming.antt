@@ -5,7 +5,7 @@ use Rattle.std.specs.Prelude.{List, [], ◌∷◌, ◌++◌, length, Option, Som
 use Rattle.std.specs.Fmt.{decimal}
 use Rattle.std.specs.List.{filter, flat_map}
 use Rattle.pl_base.specs.States.{DUPLICATE_OBJECT, NAME_TOO_LONG}
-use Rattle.pl_typing.specs.Resolved.{Resolved, ◌>>=◌}
+use Rattle.pl_assigning.specs.pl_typing.Resolved.{Resolved, ◌>>=◌}
 use Rattle.pl_mentions.specs.Mentions.{mentions}
 use Rattle.pl_mentions.specs.declared.sought.Sought.TheVariants.{Column}
 use Rattle.pl_tree.specs.declared.tree.Expr.{Expr}

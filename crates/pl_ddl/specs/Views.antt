@@ -6,8 +6,8 @@ use Rattle.pl_ddl.specs.declared.written.Asked.{Asked}
 use Rattle.pl_ddl.specs.declared.written.Asked.TheVariants.{Check, Primary, Unique, Foreign}
 use Rattle.pl_ddl.specs.declared.written.NewColumn.{NewColumn}
 use Rattle.pl_ddl.specs.declared.written.NewRule.{NewRule}
-use Rattle.pl_typing.specs.declared.fail.ScopeFail.{ScopeFail}
-use Rattle.pl_typing.specs.declared.fail.ScopeFail.TheVariants.{State as Fails, Memory}
+use Rattle.pl_assigning.specs.pl_typing.declared.fail.ScopeFail.{ScopeFail}
+use Rattle.pl_assigning.specs.pl_typing.declared.fail.ScopeFail.TheVariants.{State as Fails, Memory}
 
 abbrev pub column_view : NewColumn → spec.NewColumn
 column_view c = record { name = c.name.now; ty = c.ty.now; rules = c.rules.now }

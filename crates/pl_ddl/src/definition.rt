@@ -1,13 +1,13 @@
 //! What a definition does to the catalogue.
 
 ghost use Rattle.pl_ddl.specs.Definition as spec;
-ghost use Rattle.pl_typing.specs.Resolved.{Gives};
+ghost use Rattle.pl_assigning.specs.pl_typing.Resolved.{Gives};
 
 use crate::making::new_table;
+use pl_assigning::pl_typing::ScopeFail;
 use pl_base::{Name, State, Txt};
 use pl_catalog::{Catalog, Object, Which};
 use pl_tree::{Definition, NewTable};
-use pl_typing::ScopeFail;
 use std::alloc::Global;
 
 /// What a definition does.

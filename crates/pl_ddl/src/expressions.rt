@@ -3,10 +3,11 @@
 ghost use Rattle.std.specs.Prelude.{◌≡◌, map, IfOk};
 ghost use Rattle.pl_ddl.specs.Expressions as spec;
 ghost use Rattle.pl_ddl.specs.Views.{FailsBy, column_view};
-ghost use Rattle.pl_typing.specs.Resolved.{Gives};
+ghost use Rattle.pl_assigning.specs.pl_typing.Resolved.{Gives};
 
 use crate::written::NewColumn;
 use pl_assigning::assigned;
+use pl_assigning::pl_typing::{ScopeFail, truth};
 use pl_base::{Boxed, List, Name, State, Ty};
 use pl_catalog::Catalog;
 use pl_mentions::{Sought, mentions};
@@ -14,7 +15,6 @@ use pl_names::{Scope, Seen, Shape, Visible};
 use pl_resolved::RExpr;
 use pl_scope::{ResolvedExpr, resolve_expr};
 use pl_tree::{ColumnRule, ColumnRuleKind, Element, Expr, TableRule};
-use pl_typing::{ScopeFail, truth};
 use std::alloc::{AllocError, Global};
 
 // ---- where they stand

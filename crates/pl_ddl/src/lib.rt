@@ -12,4 +12,6 @@ mod written;
 
 pub use definition::{Defined, define};
 pub use laws::{definitions_suit_the_objects, one_text_makes_one_table};
-pub use pl_typing::ScopeFail as DefineFail;
+pub use pl_assigning::pl_typing;
+pub use pl_assigning::pl_typing::ScopeFail as DefineFail;
+pub use pl_catalog;

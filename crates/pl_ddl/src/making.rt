@@ -6,19 +6,19 @@ ghost use Rattle.std.specs.Option.{option_copied};
 ghost use Rattle.pl_catalog.specs.Objects.{is_same};
 ghost use Rattle.pl_ddl.specs.Definition as spec;
 ghost use Rattle.pl_ddl.specs.Views.{asked_view, column_view, rule_view};
-ghost use Rattle.pl_typing.specs.Resolved.{Gives};
+ghost use Rattle.pl_assigning.specs.pl_typing.Resolved.{Gives};
 
 use crate::Defined;
 use crate::expressions::{check_tree, default_tree, judge_elements, row_scope};
 use crate::naming::rule_names;
 use crate::refusals::{is_among, says_not_null, table_refusal};
 use crate::written::{Asked, NewColumn, NewRule, columns_in, default_in, names_of, rules_in};
+use pl_assigning::pl_typing::ScopeFail;
 use pl_base::{Boxed, List, Name, State, Txt, Ty};
 use pl_catalog::{Catalog, Column, Object, Rule, RuleKind, TableDef};
 use pl_names::Scope;
 use pl_resolved::RExpr;
 use pl_tree::{Element, Expr};
-use pl_typing::ScopeFail;
 use std::alloc::{AllocError, Global};
 
 /// The table of these elements, or its first refusal.

@@ -6,14 +6,14 @@ ghost use Rattle.std.specs.List.{list_any};
 ghost use Rattle.pl_ddl.specs.Naming as spec;
 ghost use Rattle.pl_ddl.specs.Refusals.{is_among};
 ghost use Rattle.pl_ddl.specs.Views.{asked_view, rule_view};
-ghost use Rattle.pl_typing.specs.Resolved.{Gives};
+ghost use Rattle.pl_assigning.specs.pl_typing.Resolved.{Gives};
 
 use crate::refusals::is_among;
 use crate::written::{Asked, NewRule};
+use pl_assigning::pl_typing::ScopeFail;
 use pl_base::{List, Name, State};
 use pl_mentions::{Sought, mentions};
 use pl_tree::Expr;
-use pl_typing::ScopeFail;
 use std::alloc::{AllocError, Global};
 use std::slice::from_ref;
 

@@ -1,8 +1,8 @@
 -- The newest block, and the variables that are left without those behind it.
 use Rattle.std.proofs.Common.{◌≡◌, ◌∙◌, ◌-◌, ℕ, List, [], ◌∷◌, ◌++◌, length, take, min, refl, ap, arith}
 use Rattle.std.proofs.lemmas.List.{take_min}
-use Rattle.pl_names.specs.declared.scope.Seen.{Seen}
-use Rattle.pl_names.specs.declared.scope.Visible.{Visible}
+use Rattle.pl_world.specs.pl_names.declared.scope.Seen.{Seen}
+use Rattle.pl_world.specs.pl_names.declared.scope.Visible.{Visible}
 use Rattle.pl_world.specs.Variables.{visible, with_variable}
 
 pub declared_last : (v : Seen) (bs : List Visible) (b : Visible) → bs ++ visible b.label (b.variables ++ v ∷ []) ∷ [] ≡ with_variable v (bs ++ b ∷ [])

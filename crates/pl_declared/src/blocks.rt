@@ -4,7 +4,7 @@ ghost use Rattle.std.specs.Prelude.{◌≡◌, ◌-◌, [], length, take, OnOk};
 ghost use Rattle.pl_world.specs.Variables as spec;
 
 use pl_base::{List, Name, Ty};
-use pl_names::{Seen, Shape, Visible};
+use pl_world::pl_names::{Seen, Shape, Visible};
 use std::alloc::{AllocError, Global};
 
 /// A block without variables.

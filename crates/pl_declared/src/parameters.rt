@@ -6,8 +6,8 @@ ghost use Rattle.pl_world.specs.Variables as spec;
 
 use crate::blocks::{block, variable};
 use pl_base::{List, Name, Ty};
-use pl_names::{Seen, Visible};
 use pl_tree::Param;
+use pl_world::pl_names::{Seen, Visible};
 use std::alloc::{AllocError, Global};
 
 /// The blocks in which a routine begins: its parameters, and inside of them FOUND.

@@ -7,8 +7,8 @@ ghost use Rattle.pl_world.specs.Variables as spec;
 use crate::blocks::{beyond, block, declare, drop_newest, variable};
 use crate::parameters::{blocks_of, none_required, types_of};
 use pl_base::{List, Name, Ty};
-use pl_names::Scope;
 use pl_tree::Param;
+use pl_world::pl_names::Scope;
 use std::alloc::{AllocError, Global};
 use std::marker::Model;
 

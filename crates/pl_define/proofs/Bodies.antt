@@ -4,16 +4,16 @@ use Rattle.std.specs.Prelude.{◌↔◌}
 use Rattle.pl_base.specs.States.{STATEMENT_TOO_COMPLEX, SYNTAX_ERROR}
 use Rattle.pl_base.specs.declared.state.State.{State}
 use Rattle.pl_bodies.specs.declared.statement.Body.{Body}
-use Rattle.pl_body_parse.proofs.Rows.{one_body}
-use Rattle.pl_body_parse.specs.Computed.{body_of_tokens}
-use Rattle.pl_body_parse.specs.Spells.{SpellsBody}
-use Rattle.pl_body_rules.specs.Heading.{Routine}
-use Rattle.pl_body_rules.specs.Rules.{first_breach}
-use Rattle.pl_body_rules.specs.declared.breach.Breach.{Breach}
+use Rattle.pl_routine.proofs.of_pl_body_parse.Rows.{one_body}
+use Rattle.pl_routine.specs.pl_body_parse.Computed.{body_of_tokens}
+use Rattle.pl_routine.specs.pl_body_parse.Spells.{SpellsBody}
+use Rattle.pl_routine.specs.pl_body_rules.Heading.{Routine}
+use Rattle.pl_routine.specs.pl_body_rules.Rules.{first_breach}
+use Rattle.pl_routine.specs.pl_body_rules.declared.breach.Breach.{Breach}
 use Rattle.pl_define.specs.Bodies.{body_by, body_in, keeping, unbroken, IsRefused}
 use Rattle.pl_define.specs.Views.{fail_by}
-use Rattle.pl_grammar.specs.Deep.{start, IsShallow}
-use Rattle.pl_grammar.specs.Marks.{kinds}
+use Rattle.pl_reading.specs.pl_grammar.Deep.{start, IsShallow}
+use Rattle.pl_reading.specs.pl_grammar.Marks.{kinds}
 use Rattle.pl_lex.specs.Characters.{Text}
 use Rattle.pl_lex.specs.Computed.{lexemes}
 use Rattle.pl_lex.specs.Lexemes.{first_bad, tokens_of, IsBad, Lexemes}
@@ -25,8 +25,8 @@ use Rattle.pl_reading.proofs.Readings.{deep_is, is_deep, is_shallow, shallow_is}
 use Rattle.pl_routine.specs.Reading.{state_of, Answers, AnswersOf, Spell}
 use Rattle.pl_routine.specs.declared.reading.BodyFail.{BodyFail}
 use Rattle.pl_routine.specs.declared.reading.BodyFail.TheVariants as fail
-use Rattle.pl_typing.specs.Resolved.{Gives, Resolved}
-use Rattle.pl_typing.specs.declared.fail.ScopeFail.{ScopeFail}
+use Rattle.pl_routine_ddl.specs.pl_typing.Resolved.{Gives, Resolved}
+use Rattle.pl_routine_ddl.specs.pl_typing.declared.fail.ScopeFail.{ScopeFail}
 
 none_some : {A : Type 0} (x : A) → (let o : Option A = None in o ≡ Some x) → ⊥
 none_some x h = cc

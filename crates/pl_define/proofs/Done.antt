@@ -6,20 +6,20 @@ use Rattle.pl_base.specs.declared.state.State.{State}
 use Rattle.pl_base.specs.declared.types.Ty.{Ty}
 use Rattle.pl_base.specs.declared.types.Ty.TheVariants as ty
 use Rattle.pl_bodies.specs.declared.statement.Body.{Body}
-use Rattle.pl_catalog.specs.Objects.{is_same, object_called, routine_named, routines_in, tables_in, which_of}
-use Rattle.pl_catalog.specs.declared.object.Object.{Object}
-use Rattle.pl_catalog.specs.declared.object.Object.TheVariants as object
-use Rattle.pl_catalog.specs.declared.object.Routine.{Routine}
-use Rattle.pl_catalog.specs.declared.object.TableDef.{TableDef}
-use Rattle.pl_catalog.specs.declared.object.Which.{Which}
-use Rattle.pl_catalog.specs.declared.object.Which.TheVariants as which
-use Rattle.pl_ddl.specs.Definition as tables
-use Rattle.pl_ddl.specs.Definition.{unless}
-use Rattle.pl_ddl.specs.DefinitionLaws as table_laws
-use Rattle.pl_ddl.specs.Refusals.{refusal_if}
-use Rattle.pl_ddl.specs.Written.{Name}
-use Rattle.pl_ddl.specs.declared.definition.Defined.{Defined as TableDefined}
-use Rattle.pl_ddl.specs.declared.definition.Defined.TheVariants as table
+use Rattle.pl_routine_ddl.specs.pl_catalog.Objects.{is_same, object_called, routine_named, routines_in, tables_in, which_of}
+use Rattle.pl_routine_ddl.specs.pl_catalog.declared.object.Object.{Object}
+use Rattle.pl_routine_ddl.specs.pl_catalog.declared.object.Object.TheVariants as object
+use Rattle.pl_routine_ddl.specs.pl_catalog.declared.object.Routine.{Routine}
+use Rattle.pl_routine_ddl.specs.pl_catalog.declared.object.TableDef.{TableDef}
+use Rattle.pl_routine_ddl.specs.pl_catalog.declared.object.Which.{Which}
+use Rattle.pl_routine_ddl.specs.pl_catalog.declared.object.Which.TheVariants as which
+use Rattle.pl_routine_ddl.specs.pl_ddl.Definition as tables
+use Rattle.pl_routine_ddl.specs.pl_ddl.Definition.{unless}
+use Rattle.pl_routine_ddl.specs.pl_ddl.DefinitionLaws as table_laws
+use Rattle.pl_routine_ddl.specs.pl_ddl.Refusals.{refusal_if}
+use Rattle.pl_routine_ddl.specs.pl_ddl.Written.{Name}
+use Rattle.pl_routine_ddl.specs.pl_ddl.declared.definition.Defined.{Defined as TableDefined}
+use Rattle.pl_routine_ddl.specs.pl_ddl.declared.definition.Defined.TheVariants as table
 use Rattle.pl_define.specs.Bodies.{body_of}
 use Rattle.pl_define.specs.Definition.{create_routine, defined, of_routine, of_routines, of_tables, text_of, with_body}
 use Rattle.pl_define.specs.declared.definition.Defined.{Defined}
@@ -35,7 +35,7 @@ use Rattle.pl_tree.specs.declared.command.Param.{Param}
 use Rattle.pl_tree.specs.declared.command.ResultType.{ResultType}
 use Rattle.pl_tree.specs.declared.command.ResultType.TheVariants as results
 use Rattle.pl_tree.specs.declared.command.RoutineKind.{RoutineKind}
-use Rattle.pl_typing.specs.Resolved.{Resolved, ◌>>=◌}
+use Rattle.pl_routine_ddl.specs.pl_typing.Resolved.{Resolved, ◌>>=◌}
 use Rattle.pl_waiting.specs.Waiting.{body_waits}
 
 -- ---- what goes on goes on from what was given

@@ -6,15 +6,15 @@ use Rattle.pl_base.specs.States.{INVALID_FUNCTION_DEFINITION, PROGRAM_LIMIT_EXCE
 use Rattle.pl_base.specs.States.{STATEMENT_TOO_COMPLEX, SYNTAX_ERROR}
 use Rattle.pl_base.specs.declared.state.State.{State}
 use Rattle.pl_bodies.specs.declared.statement.Body.{Body}
-use Rattle.pl_body_parse.specs.Computed.{body_of_tokens}
-use Rattle.pl_body_rules.specs.Heading.{Routine}
-use Rattle.pl_body_rules.specs.Rules.{first_breach}
-use Rattle.pl_body_rules.specs.declared.breach.Breach.{Breach}
-use Rattle.pl_body_rules.specs.declared.heading.Kind.{Kind}
-use Rattle.pl_body_rules.specs.declared.heading.Kind.TheVariants as of
+use Rattle.pl_routine.specs.pl_body_parse.Computed.{body_of_tokens}
+use Rattle.pl_routine.specs.pl_body_rules.Heading.{Routine}
+use Rattle.pl_routine.specs.pl_body_rules.Rules.{first_breach}
+use Rattle.pl_routine.specs.pl_body_rules.declared.breach.Breach.{Breach}
+use Rattle.pl_routine.specs.pl_body_rules.declared.heading.Kind.{Kind}
+use Rattle.pl_routine.specs.pl_body_rules.declared.heading.Kind.TheVariants as of
 use Rattle.pl_codec.specs.Spelling.{is_text}
-use Rattle.pl_grammar.specs.Deep.{start}
-use Rattle.pl_grammar.specs.Marks.{kinds}
+use Rattle.pl_reading.specs.pl_grammar.Deep.{start}
+use Rattle.pl_reading.specs.pl_grammar.Marks.{kinds}
 use Rattle.pl_lex.specs.Characters.{Text}
 use Rattle.pl_lex.specs.Computed.{lexemes}
 use Rattle.pl_lex.specs.Lexemes.{first_bad, tokens_of}
@@ -27,7 +27,7 @@ use Rattle.pl_tree.specs.declared.command.NewRoutine.{NewRoutine}
 use Rattle.pl_tree.specs.declared.command.ResultType.TheVariants.{Absent}
 use Rattle.pl_tree.specs.declared.command.RoutineKind.{RoutineKind}
 use Rattle.pl_tree.specs.declared.command.RoutineKind.TheVariants.{Function, Procedure}
-use Rattle.pl_typing.specs.Resolved.{Resolved}
+use Rattle.pl_routine_ddl.specs.pl_typing.Resolved.{Resolved}
 
 -- ---- texts
 

@@ -4,15 +4,15 @@ use Rattle.std.specs.Prelude.{ℕ, Bool, List, Option, Ok, Err}
 use Rattle.pl_base.specs.States.{FEATURE_NOT_SUPPORTED}
 use Rattle.pl_base.specs.declared.types.Ty.{Ty}
 use Rattle.pl_bodies.specs.declared.statement.Body.{Body}
-use Rattle.pl_catalog.specs.declared.object.Object.{Object}
-use Rattle.pl_catalog.specs.declared.object.Object.TheVariants as object
-use Rattle.pl_catalog.specs.declared.object.Which.TheVariants as which
-use Rattle.pl_ddl.specs.Definition as tables
-use Rattle.pl_ddl.specs.Definition.{unless}
-use Rattle.pl_ddl.specs.Refusals.{refusal_if}
-use Rattle.pl_ddl.specs.Written.{Name}
-use Rattle.pl_ddl.specs.declared.definition.Defined.{Defined as TableDefined}
-use Rattle.pl_ddl.specs.declared.definition.Defined.TheVariants as table
+use Rattle.pl_routine_ddl.specs.pl_catalog.declared.object.Object.{Object}
+use Rattle.pl_routine_ddl.specs.pl_catalog.declared.object.Object.TheVariants as object
+use Rattle.pl_routine_ddl.specs.pl_catalog.declared.object.Which.TheVariants as which
+use Rattle.pl_routine_ddl.specs.pl_ddl.Definition as tables
+use Rattle.pl_routine_ddl.specs.pl_ddl.Definition.{unless}
+use Rattle.pl_routine_ddl.specs.pl_ddl.Refusals.{refusal_if}
+use Rattle.pl_routine_ddl.specs.pl_ddl.Written.{Name}
+use Rattle.pl_routine_ddl.specs.pl_ddl.declared.definition.Defined.{Defined as TableDefined}
+use Rattle.pl_routine_ddl.specs.pl_ddl.declared.definition.Defined.TheVariants as table
 use Rattle.pl_define.specs.Bodies.{body_of}
 use Rattle.pl_define.specs.declared.definition.Defined.{Defined}
 use Rattle.pl_define.specs.declared.definition.Defined.TheVariants.{Add, Drop, Nothing, Replace}
@@ -24,7 +24,7 @@ use Rattle.pl_tree.specs.declared.command.Definition.{Definition}
 use Rattle.pl_tree.specs.declared.command.Definition.TheVariants as definition
 use Rattle.pl_tree.specs.declared.command.NewRoutine.{NewRoutine}
 use Rattle.pl_tree.specs.declared.command.RoutineKind.{RoutineKind}
-use Rattle.pl_typing.specs.Resolved.{Resolved, ◌>>=◌}
+use Rattle.pl_routine_ddl.specs.pl_typing.Resolved.{Resolved, ◌>>=◌}
 use Rattle.pl_waiting.specs.Waiting.{body_waits}
 
 -- the text of the command that made it

@@ -1,20 +1,20 @@
 //! The body of a new routine, read from its text.
 
 ghost use Rattle.std.specs.Prelude.{◌≡◌, ◌<◌, ◌-◌, ◌^◌, length};
-ghost use Rattle.pl_body_rules.specs.Heading.{routine};
+ghost use Rattle.pl_routine.specs.pl_body_rules.Heading.{routine};
 ghost use Rattle.pl_define.specs.Bodies as spec;
 ghost use Rattle.pl_define.specs.Views.{fail_by};
 ghost use Rattle.pl_routine.specs.Reading.{state_of};
-ghost use Rattle.pl_typing.specs.Resolved.{Gives};
+ghost use Rattle.pl_routine_ddl.specs.pl_typing.Resolved.{Gives};
 
 use pl_base::{Held, State, Txt};
 use pl_bodies::Body;
-use pl_body_rules::{Heading, Kind};
 use pl_codec::is_text;
 use pl_lex::read_utf8;
+use pl_routine::pl_body_rules::{Heading, Kind};
 use pl_routine::{BodyFail, read_body};
+use pl_routine_ddl::pl_typing::ScopeFail;
 use pl_tree::{NewRoutine, ResultType, RoutineKind};
-use pl_typing::ScopeFail;
 use std::alloc::Global;
 
 /// A body of so many bytes isn't read: each place in a text is counted in 4 bytes.

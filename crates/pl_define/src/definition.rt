@@ -1,19 +1,19 @@
 //! What a definition does to the catalogue.
 
 ghost use Rattle.std.specs.Prelude.{◌≡◌, None};
-ghost use Rattle.pl_ddl.specs.Definition as tables;
+ghost use Rattle.pl_routine_ddl.specs.pl_ddl.Definition as tables;
 ghost use Rattle.pl_define.specs.Definition as spec;
 ghost use Rattle.pl_routine_ddl.specs.Routines.{form_refusal};
-ghost use Rattle.pl_typing.specs.Resolved.{Gives};
+ghost use Rattle.pl_routine_ddl.specs.pl_typing.Resolved.{Gives};
 
 use crate::body::body_of;
 use pl_base::{Held, List, Name, State, Txt, Ty};
 use pl_bodies::Body;
-use pl_catalog::{Catalog, Object, RoutineBody, Which};
-use pl_ddl::Defined as TableDefined;
+use pl_routine_ddl::pl_catalog::{Catalog, Object, RoutineBody, Which};
+use pl_routine_ddl::pl_ddl::Defined as TableDefined;
+use pl_routine_ddl::pl_typing::ScopeFail;
 use pl_routine_ddl::{RoutineDefined, drop_routine, form_refusal};
 use pl_tree::{Definition, NewRoutine, RoutineKind};
-use pl_typing::ScopeFail;
 use pl_waiting::waits;
 use std::alloc::Global;
 
@@ -77,7 +77,7 @@ fn define_table(
     ensures { Gives result
         (spec.of_tables (tables.defined catalog.now.objects definition.now text)) }
 {
-    match pl_ddl::define(alloc, catalog, definition, text) {
+    match pl_routine_ddl::pl_ddl::define(alloc, catalog, definition, text) {
         Ok(made) => Ok(of_table(made)),
         Err(fail) => Err(fail),
     }

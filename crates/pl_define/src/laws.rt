@@ -3,12 +3,12 @@
 ghost use Rattle.std.specs.Prelude.{◌≡◌, ◌↔◌, ℕ, List, None, Ok, Err, Some};
 ghost use Rattle.pl_base.specs.declared.state.State.{State};
 ghost use Rattle.pl_bodies.specs.declared.statement.Body.{Body};
-ghost use Rattle.pl_body_rules.specs.Heading.{Routine as Declared};
-ghost use Rattle.pl_catalog.specs.Objects.{object_called, which_of};
-ghost use Rattle.pl_catalog.specs.declared.object.Object.{Object};
-ghost use Rattle.pl_catalog.specs.declared.object.Object.TheVariants.{Routine as AsRoutine};
-ghost use Rattle.pl_catalog.specs.declared.object.Routine.{Routine};
-ghost use Rattle.pl_catalog.specs.declared.object.Which.{Which};
+ghost use Rattle.pl_routine.specs.pl_body_rules.Heading.{Routine as Declared};
+ghost use Rattle.pl_routine_ddl.specs.pl_catalog.Objects.{object_called, which_of};
+ghost use Rattle.pl_routine_ddl.specs.pl_catalog.declared.object.Object.{Object};
+ghost use Rattle.pl_routine_ddl.specs.pl_catalog.declared.object.Object.TheVariants.{Routine as AsRoutine};
+ghost use Rattle.pl_routine_ddl.specs.pl_catalog.declared.object.Routine.{Routine};
+ghost use Rattle.pl_routine_ddl.specs.pl_catalog.declared.object.Which.{Which};
 ghost use Rattle.pl_define.specs.Bodies.{body_in, IsRefused};
 ghost use Rattle.pl_define.specs.Definition.{defined, text_of};
 ghost use Rattle.pl_define.specs.declared.definition.Defined.TheVariants.{Add, Drop, Replace};

@@ -4,3 +4,4 @@ mod Values
 mod Parts
 mod Steps
 mod Joints
+pub use Rattle.pl_scope.proofs as of_pl_scope

@@ -2,3 +2,4 @@ pub mod Direct
 pub mod Known
 pub mod Runs
 pub mod Search
+pub use Rattle.pl_scope.specs as pl_scope

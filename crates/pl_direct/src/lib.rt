@@ -11,4 +11,5 @@ mod search;
 pub use direct::direct_value;
 pub use known::Known;
 pub use leaves::direct_variable;
+pub use pl_scope;
 pub use search::Spot;

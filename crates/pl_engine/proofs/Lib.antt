@@ -7,3 +7,4 @@ pub mod Rises
 pub mod Tells
 pub mod Turned
 pub mod Writes
+pub use Rattle.pl_world.proofs.of_pl_meaning

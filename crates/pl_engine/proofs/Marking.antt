@@ -8,7 +8,7 @@ use Rattle.pl_base.specs.declared.value.Value.TheVariants.{Text}
 use Rattle.pl_engine.specs.Engines.{Quiet, kept, world}
 use Rattle.pl_engine.specs.Handling.{kept_at, returned_to, with_mark, with_marks}
 use Rattle.pl_engine.specs.declared.engine.Engine.{Engine}
-use Rattle.pl_names.specs.Names.{Name}
+use Rattle.pl_world.specs.pl_names.Names.{Name}
 use Rattle.pl_print.specs.Messages.{message_text}
 use Rattle.pl_undo.specs.Database.{Database}
 use Rattle.pl_undo.specs.Store.{Stored}

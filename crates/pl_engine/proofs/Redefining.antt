@@ -9,9 +9,9 @@ use Rattle.pl_engine.specs.Changing.{Defined}
 use Rattle.pl_engine.specs.Engines.{Kept, kept, world}
 use Rattle.pl_engine.specs.Handling.{kept_at, with_mark, with_marks}
 use Rattle.pl_engine.specs.declared.engine.Engine.{Engine}
-use Rattle.pl_journal.specs.Definitions.{Behind, behind}
-use Rattle.pl_journal.specs.Journal.{Redefines}
-use Rattle.pl_names.specs.Names.{Name}
+use Rattle.pl_world.specs.pl_journal.Definitions.{Behind, behind}
+use Rattle.pl_world.specs.pl_journal.Journal.{Redefines}
+use Rattle.pl_world.specs.pl_names.Names.{Name}
 use Rattle.pl_tree.specs.declared.command.Definition.{Definition}
 use Rattle.pl_typing.specs.Resolved.{Resolved}
 use Rattle.pl_typing.specs.declared.fail.ScopeFail.{ScopeFail}

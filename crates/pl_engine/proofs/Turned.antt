@@ -7,7 +7,7 @@ use Rattle.std.proofs.lemmas.List.{reverse-append}
 use Rattle.std.proofs.lemmas.List.Folds.{list_all-append, list_all-map, list_any-append}
 use Rattle.pl_engine.specs.Engines.{frame_of, is_command}
 use Rattle.pl_engine.specs.declared.call.Call.{Call}
-use Rattle.pl_names.specs.Names.{Name}
+use Rattle.pl_world.specs.pl_names.Names.{Name}
 use Rattle.pl_variables.specs.declared.frames.Frame.{Frame as Held}
 use Rattle.pl_world.specs.Commands.{is_changing}
 use Rattle.pl_world.specs.Transactions.{are_commands}

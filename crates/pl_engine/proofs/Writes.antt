@@ -5,8 +5,8 @@ use Rattle.pl_base.specs.declared.state.State.{State}
 use Rattle.pl_engine.specs.Changing.{Wrote, without_row}
 use Rattle.pl_engine.specs.Engines.{kept, world}
 use Rattle.pl_engine.specs.declared.engine.Engine.{Engine}
-use Rattle.pl_journal.specs.Journal.{ChangesOnly, Leads}
-use Rattle.pl_names.specs.Names.{Name}
+use Rattle.pl_world.specs.pl_journal.Journal.{ChangesOnly, Leads}
+use Rattle.pl_world.specs.pl_names.Names.{Name}
 use Rattle.pl_tables.specs.Named.{Named}
 use Rattle.pl_tables.specs.Rows.{removed}
 use Rattle.pl_undo.specs.Database.{database, on_rows}

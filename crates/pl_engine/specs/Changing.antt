@@ -2,8 +2,8 @@
 -- Definition".
 use Rattle.std.specs.Prelude.{◌≡◌, ℕ, List, Option, Result, Ok, Err, drop}
 use Rattle.pl_base.specs.declared.state.State.{State}
-use Rattle.pl_journal.specs.Definitions.{Behind, behind}
-use Rattle.pl_names.specs.Names.{Name}
+use Rattle.pl_world.specs.pl_journal.Definitions.{Behind, behind}
+use Rattle.pl_world.specs.pl_names.Names.{Name}
 use Rattle.pl_tables.specs.Named.{Named, on_table}
 use Rattle.pl_tables.specs.Rows.{removed}
 use Rattle.pl_typing.specs.Resolved.{Resolved}

@@ -5,7 +5,7 @@ use Rattle.pl_base.specs.declared.value.Value.{Value}
 use Rattle.pl_base.specs.declared.value.Value.TheVariants.{Bool as Truth}
 use Rattle.pl_engine.specs.declared.engine.Engine.{Engine}
 use Rattle.pl_engine.specs.declared.call.Call.{Call}
-use Rattle.pl_names.specs.Names.{Name}
+use Rattle.pl_world.specs.pl_names.Names.{Name}
 use Rattle.pl_undo.specs.Database.{Database}
 use Rattle.pl_variables.specs.declared.frames.Frame.{Frame as Held}
 use Rattle.pl_world.specs.Scripts.{outward}

@@ -1,7 +1,7 @@
 -- What a recorder keeps of what it took.
 use Rattle.std.specs.Prelude.{◌≡◌, ℕ, List, [], ◌∷◌, ◌++◌}
 use Rattle.pl_engine.specs.declared.recorder.Recorder.{Recorder}
-use Rattle.pl_journal.specs.Journal.{LeadsTo}
+use Rattle.pl_world.specs.pl_journal.Journal.{LeadsTo}
 use Rattle.pl_world.specs.Trace.{Committed, Event, Failed, Said}
 use Rattle.pl_undo.specs.Database.{Database}
 

@@ -1,7 +1,7 @@
 -- Proofs that other crates' proofs may cite; no definition. What a recorder takes joins.
 use Rattle.std.proofs.Common.{◌≡◌, ◌≤◌, ◌∙◌, ℕ, List, [], ◌∷◌, ◌++◌, arith, refl, subst}
 use Rattle.pl_engine.specs.Recorded.{Lead, Taken, Takes, with_lines, with_payload}
-use Rattle.pl_journal.specs.Journal.{LeadsTo}
+use Rattle.pl_world.specs.pl_journal.Journal.{LeadsTo}
 use Rattle.pl_world.specs.Trace.{Committed, Event, Failed, Said, last_commit}
 use Rattle.pl_undo.specs.Database.{Database}
 

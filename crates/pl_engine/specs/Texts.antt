@@ -1,5 +1,5 @@
 -- What the text of a DO is read as.
-use Rattle.pl_journal.specs.Bodies.{body_of_text, nameless}
+use Rattle.pl_world.specs.pl_journal.Bodies.{body_of_text, nameless}
 use Rattle.pl_typing.specs.Resolved.{◌>>=◌}
 use Rattle.pl_world.specs.Running.{Bodies}
 use Rattle.pl_world.specs.Waiting.{unless_waiting}

@@ -4,7 +4,7 @@
 ghost use Rattle.std.specs.Prelude.{◌≡◌, ◌∷◌, drop, IsSome, None, Some, OnErr, OnOk};
 ghost use Rattle.pl_engine.specs.Changing.{Wrote, without_change, without_row};
 ghost use Rattle.pl_engine.specs.Engines.{kept, world};
-ghost use Rattle.pl_journal.specs.Writing.{written};
+ghost use Rattle.pl_world.specs.pl_journal.Writing.{written};
 ghost use Rattle.pl_tables.specs.Named.{row_named};
 ghost use Rattle.pl_world.specs.Changes.{while_changing};
 

@@ -4,8 +4,8 @@ ghost use Rattle.std.specs.Prelude.{◌≡◌, bytes_eq, true, List, ℕ, Some};
 ghost use Rattle.std.specs.List.{list_any};
 ghost use Rattle.pl_engine.specs.Changing.{Defined};
 ghost use Rattle.pl_engine.specs.Engines.{kept, world};
-ghost use Rattle.pl_journal.specs.Definitions.{redefined};
-ghost use Rattle.pl_reading.specs.Computed.{definition_in};
+ghost use Rattle.pl_world.specs.pl_journal.Definitions.{redefined};
+ghost use Rattle.pl_world.specs.pl_reading.Computed.{definition_in};
 ghost use Rattle.pl_world.specs.Commands as spec;
 
 use crate::engine::Engine;

@@ -6,8 +6,8 @@ ghost use Rattle.pl_world.specs.Sessions.{new_world, with_steps};
 
 use crate::call::Call;
 use pl_base::Name;
-use pl_journal::Journal;
 use pl_variables::Frames;
+use pl_world::pl_journal::Journal;
 use std::alloc::Global;
 
 /// What statements work on. It stands for a world.

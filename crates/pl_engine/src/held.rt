@@ -4,7 +4,7 @@ ghost use Rattle.std.specs.Prelude.{◌≡◌, []};
 
 use crate::port::{Port, PortFail};
 use pl_base::Txt;
-use pl_journal::Journal;
+use pl_world::pl_journal::Journal;
 use std::alloc::Global;
 use std::marker::Model;
 

@@ -6,7 +6,7 @@ ghost use Rattle.pl_engine.specs.declared.port.PortFail.TheVariants.{Memory};
 ghost use Rattle.pl_world.specs.Trace.{Event, Said, Committed, last_commit};
 ghost use Rattle.pl_undo.specs.Database.{Database};
 
-use pl_journal::Journal;
+use pl_world::pl_journal::Journal;
 
 /// Why a port didn't take an event wholly.
 #[derive(Clone, Copy, Debug, PartialEq, Eq)]

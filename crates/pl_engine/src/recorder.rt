@@ -7,7 +7,7 @@ ghost use Rattle.pl_engine.specs.declared.port.PortFail.TheVariants.{Memory};
 
 use crate::port::{Port, PortFail};
 use pl_base::Txt;
-use pl_journal::Journal;
+use pl_world::pl_journal::Journal;
 use std::alloc::Global;
 
 /// A port that keeps what it took, and whose device fails from some call on.
@@ -72,7 +72,7 @@ impl Port for Recorder {
     ghost use Rattle.std.proofs.Common.{refl};
     ghost use Rattle.pl_engine.specs.Recorded.{Lead, Takes, taken};
     ghost use Rattle.pl_engine.specs.RecordedLaws.{counts_join, counts_rise, takes_join};
-    ghost use Rattle.pl_journal.specs.Operation.{empty};
+    ghost use Rattle.pl_world.specs.pl_journal.Operation.{empty};
 
     ghost fits = { λ db r. Lead r.payloads.items empty db };
 

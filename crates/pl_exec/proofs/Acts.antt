@@ -13,11 +13,11 @@ use Rattle.pl_bodies.specs.declared.statement.LoopHead.{LoopHead}
 use Rattle.pl_bodies.specs.declared.statement.LoopHead.TheVariants as head
 use Rattle.pl_bodies.specs.declared.statement.RowSource.{RowSource}
 use Rattle.pl_bodies.specs.declared.statement.Statement.{Statement}
-use Rattle.pl_engine.proofs.Joins.{Lawful, becomes, start}
-use Rattle.pl_engine.specs.Answers.{Partway}
-use Rattle.pl_engine.specs.Engines.{world}
-use Rattle.pl_engine.specs.declared.engine.Engine.{Engine}
-use Rattle.pl_engine.specs.declared.port.Port.{Ghosts}
+use Rattle.pl_control.proofs.of_pl_engine.Joins.{Lawful, becomes, start}
+use Rattle.pl_control.specs.pl_engine.Answers.{Partway}
+use Rattle.pl_control.specs.pl_engine.Engines.{world}
+use Rattle.pl_control.specs.pl_engine.declared.engine.Engine.{Engine}
+use Rattle.pl_control.specs.pl_engine.declared.port.Port.{Ghosts}
 use Rattle.pl_names.specs.Names.{Name}
 use Rattle.pl_tree.specs.declared.command.Command.{Command}
 use Rattle.pl_tree.specs.declared.command.Command.TheVariants as command

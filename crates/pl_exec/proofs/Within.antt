@@ -4,12 +4,12 @@ use Rattle.pl_base.specs.States.{QUERY_CANCELED}
 use Rattle.pl_bodies.specs.declared.statement.Body.{Body}
 use Rattle.pl_bodies.specs.declared.statement.Statement.{Statement, out-Statement}
 use Rattle.pl_bodies.specs.declared.statement.StatementKind.{out-StatementKind}
-use Rattle.pl_engine.proofs.Joins.{Lawful, becomes, start, step}
-use Rattle.pl_engine.specs.Answers.{Partway}
-use Rattle.pl_engine.specs.Engines.{Took, world}
-use Rattle.pl_engine.specs.Texts.{do_bodies}
-use Rattle.pl_engine.specs.declared.engine.Engine.{Engine}
-use Rattle.pl_engine.specs.declared.port.Port.{Ghosts}
+use Rattle.pl_control.proofs.of_pl_engine.Joins.{Lawful, becomes, start, step}
+use Rattle.pl_control.specs.pl_engine.Answers.{Partway}
+use Rattle.pl_control.specs.pl_engine.Engines.{Took, world}
+use Rattle.pl_control.specs.pl_engine.Texts.{do_bodies}
+use Rattle.pl_control.specs.pl_engine.declared.engine.Engine.{Engine}
+use Rattle.pl_control.specs.pl_engine.declared.port.Port.{Ghosts}
 use Rattle.pl_world.specs.Blocks.{block}
 use Rattle.pl_world.specs.Errors.{Spot, raised}
 use Rattle.pl_world.specs.Running.{Runner, Task, body, spot_of, statement, stepped, stepped_by}

@@ -1,11 +1,11 @@
 -- What runs the tasks inside of a task.
 use Rattle.std.specs.Prelude.{◌<◌, ℕ, Result}
 use denote.Ref.{MutBor}
-use Rattle.pl_engine.specs.Runs.{Runs}
-use Rattle.pl_engine.specs.declared.engine.Engine.{Engine}
-use Rattle.pl_engine.specs.declared.port.Port.{Ghosts}
-use Rattle.pl_engine.specs.declared.runner.Task.{Task}
-use Rattle.pl_engine.specs.declared.stop.Stop.{Stop}
+use Rattle.pl_control.specs.pl_engine.Runs.{Runs}
+use Rattle.pl_control.specs.pl_engine.declared.engine.Engine.{Engine}
+use Rattle.pl_control.specs.pl_engine.declared.port.Port.{Ghosts}
+use Rattle.pl_control.specs.pl_engine.declared.runner.Task.{Task}
+use Rattle.pl_control.specs.pl_engine.declared.stop.Stop.{Stop}
 use Rattle.pl_world.specs.declared.outcome.Outcome.{Outcome}
 
 -- it runs tasks wherever there is less room

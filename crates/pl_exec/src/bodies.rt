@@ -3,7 +3,7 @@
 use crate::holding::run_held;
 use crate::tasks::body;
 use pl_bodies::Body;
-use pl_engine::{BodyRunner, Engine, Held, Stop};
+use pl_control::pl_engine::{BodyRunner, Engine, Held, Stop};
 use pl_world::Outcome;
 
 /// Runs the bodies of the routines that expressions call, with any room.

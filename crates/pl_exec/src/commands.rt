@@ -1,16 +1,16 @@
 //! Commands as statements, each by the function for it.
 
 ghost use Rattle.std.specs.Prelude.{◌≡◌, ◌≤◌, OnOk};
-ghost use Rattle.pl_engine.specs.Answers.{Answers};
-ghost use Rattle.pl_engine.specs.Engines.{kept, world};
-ghost use Rattle.pl_engine.specs.Runs.{Runs};
-ghost use Rattle.pl_engine.specs.Texts.{do_bodies};
+ghost use Rattle.pl_control.specs.pl_engine.Answers.{Answers};
+ghost use Rattle.pl_control.specs.pl_engine.Engines.{kept, world};
+ghost use Rattle.pl_control.specs.pl_engine.Runs.{Runs};
+ghost use Rattle.pl_control.specs.pl_engine.Texts.{do_bodies};
 ghost use Rattle.pl_world.specs.Statements as spec;
 ghost use Rattle.pl_world.specs.Statements.{runner_for};
 
 use pl_base::State;
+use pl_control::pl_engine::{BodyRunner, Engine, Port, Runner, Spot, Stop, Task};
 use pl_control::{call, define_text, do_text};
-use pl_engine::{BodyRunner, Engine, Port, Runner, Spot, Stop, Task};
 use pl_tree::Command;
 use pl_world::Outcome;
 

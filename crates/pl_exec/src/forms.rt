@@ -2,21 +2,21 @@
 
 ghost use Rattle.std.specs.Prelude.{◌≡◌, ◌≤◌, OnOk};
 ghost use Rattle.pl_bodies.specs.declared.statement.StatementKind.{out-StatementKind};
-ghost use Rattle.pl_engine.specs.Answers.{Answers};
-ghost use Rattle.pl_engine.specs.Engines.{kept, world};
-ghost use Rattle.pl_engine.specs.Runs.{Runs};
-ghost use Rattle.pl_engine.specs.Texts.{do_bodies};
+ghost use Rattle.pl_control.specs.pl_engine.Answers.{Answers};
+ghost use Rattle.pl_control.specs.pl_engine.Engines.{kept, world};
+ghost use Rattle.pl_control.specs.pl_engine.Runs.{Runs};
+ghost use Rattle.pl_control.specs.pl_engine.Texts.{do_bodies};
 ghost use Rattle.pl_world.specs.Control as control;
 ghost use Rattle.pl_world.specs.Statements as spec;
 ghost use Rattle.pl_world.specs.Statements.{runner_for};
 
 use crate::simple::run_simple;
-use pl_asking::case_operand;
 use pl_base::{Boxed, State};
 use pl_bodies::{CaseArm, Loop, LoopHead, Otherwise, StatementKind};
-use pl_engine::{BodyRunner, Engine, Port, Runner, Spot, Stop, Task};
-use pl_flow::{Numbers, branches, for_numbers, forever, searched, while_true};
+use pl_control::pl_asking::case_operand;
+use pl_control::pl_engine::{BodyRunner, Engine, Port, Runner, Spot, Stop, Task};
 use pl_handlers::block;
+use pl_handlers::pl_flow::{Numbers, branches, for_numbers, forever, searched, while_true};
 use pl_tree::Expr;
 use pl_world::Outcome;
 

@@ -1,14 +1,14 @@
 //! Tasks inside of the calls that stand in expressions: what they print is held.
 
 ghost use Rattle.std.specs.Prelude.{◌≡◌, ◌≤◌, OnOk};
-ghost use Rattle.pl_engine.specs.Answers.{Answers};
-ghost use Rattle.pl_engine.specs.Engines.{kept, world};
-ghost use Rattle.pl_engine.specs.Runs.{run_as};
-ghost use Rattle.pl_engine.specs.Texts.{do_bodies};
+ghost use Rattle.pl_control.specs.pl_engine.Answers.{Answers};
+ghost use Rattle.pl_control.specs.pl_engine.Engines.{kept, world};
+ghost use Rattle.pl_control.specs.pl_engine.Runs.{run_as};
+ghost use Rattle.pl_control.specs.pl_engine.Texts.{do_bodies};
 
 use crate::tasks::{body, task};
 use pl_bodies::Body;
-use pl_engine::{BodyRunner, Engine, Held, Port, Stop, Task};
+use pl_control::pl_engine::{BodyRunner, Engine, Held, Port, Stop, Task};
 use pl_world::Outcome;
 
 /// Runs bodies whose statements are run by a function.

@@ -11,4 +11,6 @@ mod simple;
 mod tasks;
 
 pub use bodies::Bodies;
+pub use pl_world;
+pub use pl_world::pl_journal;
 pub use running::run;

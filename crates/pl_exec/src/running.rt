@@ -1,14 +1,14 @@
 //! Tasks over any port.
 
 ghost use Rattle.std.specs.Prelude.{◌≡◌, ◌≤◌, OnOk};
-ghost use Rattle.pl_engine.specs.Answers.{Answers};
-ghost use Rattle.pl_engine.specs.Engines.{kept, world};
-ghost use Rattle.pl_engine.specs.Runs.{run_as};
-ghost use Rattle.pl_engine.specs.Texts.{do_bodies};
+ghost use Rattle.pl_control.specs.pl_engine.Answers.{Answers};
+ghost use Rattle.pl_control.specs.pl_engine.Engines.{kept, world};
+ghost use Rattle.pl_control.specs.pl_engine.Runs.{run_as};
+ghost use Rattle.pl_control.specs.pl_engine.Texts.{do_bodies};
 
 use crate::bodies::Bodies;
 use crate::tasks::task;
-use pl_engine::{Engine, Port, Stop, Task};
+use pl_control::pl_engine::{Engine, Port, Stop, Task};
 use pl_world::Outcome;
 
 /// Runs a task: a statement, the body of a routine, or what a statement asks. The room is how many

@@ -1,22 +1,22 @@
 //! Statements that hold no other, each by the function for it.
 
 ghost use Rattle.std.specs.Prelude.{◌≡◌, ◌≤◌, OnOk};
-ghost use Rattle.pl_engine.specs.Answers.{Answers};
-ghost use Rattle.pl_engine.specs.Engines.{kept, world};
-ghost use Rattle.pl_engine.specs.Runs.{Runs};
-ghost use Rattle.pl_engine.specs.Texts.{do_bodies};
+ghost use Rattle.pl_control.specs.pl_engine.Answers.{Answers};
+ghost use Rattle.pl_control.specs.pl_engine.Engines.{kept, world};
+ghost use Rattle.pl_control.specs.pl_engine.Runs.{Runs};
+ghost use Rattle.pl_control.specs.pl_engine.Texts.{do_bodies};
 ghost use Rattle.pl_world.specs.Statements as spec;
 ghost use Rattle.pl_world.specs.Statements.{runner_for};
 
 use crate::commands::command;
 use pl_altering::alter;
-use pl_asking::{assign, diagnose, returns};
+use pl_altering::pl_querying::{perform, run_query};
 use pl_base::State;
 use pl_bodies::Simple;
+use pl_control::pl_asking::{assign, diagnose, returns};
+use pl_control::pl_engine::{BodyRunner, Calls, Engine, Port, Runner, Spot, Stop, Task};
 use pl_control::{commit, roll_back};
-use pl_engine::{BodyRunner, Calls, Engine, Port, Runner, Spot, Stop, Task};
-use pl_flow::jump;
-use pl_querying::{perform, run_query};
+use pl_handlers::pl_flow::jump;
 use pl_raise::{again, assert, diagnose_stacked, raise};
 use pl_world::Outcome;
 

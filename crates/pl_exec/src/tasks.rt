@@ -2,19 +2,19 @@
 //! body begin with a step.
 
 ghost use Rattle.std.specs.Prelude.{◌≡◌, ◌≤◌, ℕ, OnOk};
-ghost use Rattle.pl_engine.specs.Answers.{Answers};
-ghost use Rattle.pl_engine.specs.Engines.{kept, world};
-ghost use Rattle.pl_engine.specs.Runs.{run_as};
-ghost use Rattle.pl_engine.specs.Texts.{do_bodies};
+ghost use Rattle.pl_control.specs.pl_engine.Answers.{Answers};
+ghost use Rattle.pl_control.specs.pl_engine.Engines.{kept, world};
+ghost use Rattle.pl_control.specs.pl_engine.Runs.{run_as};
+ghost use Rattle.pl_control.specs.pl_engine.Texts.{do_bodies};
 ghost use Rattle.pl_exec.specs.Below.{RunsBelow};
 ghost use Rattle.pl_world.specs.Running as spec;
 ghost use Rattle.pl_world.specs.Statements.{run_within};
 
 use crate::forms::form;
-use pl_asking::answer;
 use pl_base::State;
 use pl_bodies::{Body, Statement};
-use pl_engine::{Ask, BodyRunner, Calls, Engine, Port, Runner, Spot, Stop, Task};
+use pl_control::pl_asking::answer;
+use pl_control::pl_engine::{Ask, BodyRunner, Calls, Engine, Port, Runner, Spot, Stop, Task};
 use pl_handlers::block;
 use pl_world::Outcome;
 

@@ -11,11 +11,11 @@ use Rattle.pl_engine.specs.declared.stop.Stop.{Stop}
 use Rattle.pl_flow.proofs.Sequences.{behind_none, bound_seq, raised_seq, stride_seq, tested_seq}
 use Rattle.pl_flow.specs.Answered.{number_of, truth_of}
 use Rattle.pl_tree.specs.declared.tree.Expr.{Expr}
-use Rattle.pl_world.specs.Control.{bound, stride, tested, tested_one}
-use Rattle.pl_world.specs.Errors.{Spot}
-use Rattle.pl_world.specs.Running.{Runner}
-use Rattle.pl_world.specs.World.{Ran, World, and_then, ends}
-use Rattle.pl_world.specs.declared.outcome.Outcome.{Outcome}
+use Rattle.pl_engine.specs.pl_world.Control.{bound, stride, tested, tested_one}
+use Rattle.pl_engine.specs.pl_world.Errors.{Spot}
+use Rattle.pl_engine.specs.pl_world.Running.{Runner}
+use Rattle.pl_engine.specs.pl_world.World.{Ran, World, and_then, ends}
+use Rattle.pl_engine.specs.pl_world.declared.outcome.Outcome.{Outcome}
 
 -- ---- what goes on with an answer
 

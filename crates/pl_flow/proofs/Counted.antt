@@ -6,7 +6,7 @@ use Rattle.std.proofs.Math.Nat.{div-mul-le_self}
 use Rattle.std.specs.Int.{w32}
 use Rattle.std.specs.Prelude.{FitsSigned, ◌+ℤ◌, ◌-ℤ◌, ◌/◌, int_le, nat_abs, neg_ℤ}
 use Rattle.pl_flow.specs.Ranges.{AreIntegers}
-use Rattle.pl_world.specs.Control.{counted_from, how_many, numbers}
+use Rattle.pl_engine.specs.pl_world.Control.{counted_from, how_many, numbers}
 
 -- ---- the numbers that are left
 

@@ -5,3 +5,4 @@ pub mod Opened
 pub mod Overs
 pub mod Repeats
 pub mod Counted
+pub use Rattle.pl_engine.proofs as of_pl_engine

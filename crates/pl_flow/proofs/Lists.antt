@@ -13,13 +13,13 @@ use Rattle.pl_engine.specs.declared.port.Port.{Ghosts}
 use Rattle.pl_engine.specs.declared.stop.Stop.{Stop}
 use Rattle.pl_flow.proofs.Asked.{on_truth, tested_is, tested_one_is}
 use Rattle.pl_tree.specs.declared.tree.Expr.{Expr}
-use Rattle.pl_world.specs.Blocks.{all_declared, one_declared}
-use Rattle.pl_world.specs.Control.{branches, else_of, not_found, searched, tested, tested_one}
-use Rattle.pl_world.specs.Errors.{Spot}
-use Rattle.pl_world.specs.Running.{Runner, all, on_next}
-use Rattle.pl_world.specs.World.{Ran, World, and_then, ends}
-use Rattle.pl_world.specs.declared.outcome.Outcome.{Outcome}
-use Rattle.pl_world.specs.declared.outcome.Outcome.TheVariants as outcome
+use Rattle.pl_engine.specs.pl_world.Blocks.{all_declared, one_declared}
+use Rattle.pl_engine.specs.pl_world.Control.{branches, else_of, not_found, searched, tested, tested_one}
+use Rattle.pl_engine.specs.pl_world.Errors.{Spot}
+use Rattle.pl_engine.specs.pl_world.Running.{Runner, all, on_next}
+use Rattle.pl_engine.specs.pl_world.World.{Ran, World, and_then, ends}
+use Rattle.pl_engine.specs.pl_world.declared.outcome.Outcome.{Outcome}
+use Rattle.pl_engine.specs.pl_world.declared.outcome.Outcome.TheVariants as outcome
 
 front : {A : Type 0} (xs : List A) (i : ℕ) (x : A) → i < length xs → x ≡ get_or xs i x → drop i xs ≡ x ∷ drop (i + 1) xs
 front xs i x lt is = rw (add-one, drop-cons xs i x lt, ← is) refl

@@ -13,12 +13,12 @@ use Rattle.pl_flow.proofs.Asked.{bound_is, on_number, on_truth, tested_is}
 use Rattle.pl_flow.specs.Answered.{goes}
 use Rattle.pl_names.specs.Names.{Name}
 use Rattle.pl_tree.specs.declared.tree.Expr.{Expr}
-use Rattle.pl_world.specs.Control.{bound, for_numbers, jumped, jumps, numbers, over_numbers, positive, stride, tested, turn}
-use Rattle.pl_world.specs.Errors.{Spot, raised}
-use Rattle.pl_world.specs.Running.{Runner}
-use Rattle.pl_world.specs.World.{Ran, World, and_then, ends}
-use Rattle.pl_world.specs.declared.outcome.Outcome.{Outcome}
-use Rattle.pl_world.specs.declared.outcome.Outcome.TheVariants as outcome
+use Rattle.pl_engine.specs.pl_world.Control.{bound, for_numbers, jumped, jumps, numbers, over_numbers, positive, stride, tested, turn}
+use Rattle.pl_engine.specs.pl_world.Errors.{Spot, raised}
+use Rattle.pl_engine.specs.pl_world.Running.{Runner}
+use Rattle.pl_engine.specs.pl_world.World.{Ran, World, and_then, ends}
+use Rattle.pl_engine.specs.pl_world.declared.outcome.Outcome.{Outcome}
+use Rattle.pl_engine.specs.pl_world.declared.outcome.Outcome.TheVariants as outcome
 
 -- ---- what goes on with an answer
 

@@ -17,14 +17,14 @@ use Rattle.pl_engine.specs.declared.stop.Stop.{Stop}
 use Rattle.pl_flow.specs.Ranges.{numbers_in}
 use Rattle.pl_flow.specs.declared.ranges.Counting.{Counting}
 use Rattle.pl_names.specs.Names.{Name}
-use Rattle.pl_world.specs.Blocks.{all_declared, block, block_end, block_left, protected, within_block}
-use Rattle.pl_world.specs.Control.{counted_from, each, for_left, over_numbers, with_turns}
-use Rattle.pl_world.specs.Errors.{Spot}
-use Rattle.pl_world.specs.Running.{Runner, all, on_next}
-use Rattle.pl_world.specs.Variables.{closed, declared, newest_place, opened, with_found}
-use Rattle.pl_world.specs.World.{Ran, World, and_then, ends}
-use Rattle.pl_world.specs.declared.outcome.Outcome.{Outcome}
-use Rattle.pl_world.specs.declared.outcome.Outcome.TheVariants as outcome
+use Rattle.pl_engine.specs.pl_world.Blocks.{all_declared, block, block_end, block_left, protected, within_block}
+use Rattle.pl_engine.specs.pl_world.Control.{counted_from, each, for_left, over_numbers, with_turns}
+use Rattle.pl_engine.specs.pl_world.Errors.{Spot}
+use Rattle.pl_engine.specs.pl_world.Running.{Runner, all, on_next}
+use Rattle.pl_engine.specs.pl_world.Variables.{closed, declared, newest_place, opened, with_found}
+use Rattle.pl_engine.specs.pl_world.World.{Ran, World, and_then, ends}
+use Rattle.pl_engine.specs.pl_world.declared.outcome.Outcome.{Outcome}
+use Rattle.pl_engine.specs.pl_world.declared.outcome.Outcome.TheVariants as outcome
 
 -- ---- what a block of variables leaves
 

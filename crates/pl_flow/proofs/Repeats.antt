@@ -14,13 +14,13 @@ use Rattle.pl_flow.proofs.Sequences.{and_then_assoc, and_then_same, behind_none,
 use Rattle.pl_flow.specs.Answered.{goes, going_of, no_round, round, turn_end}
 use Rattle.pl_names.specs.Names.{Name}
 use Rattle.pl_tree.specs.declared.tree.Expr.{Expr}
-use Rattle.pl_world.specs.Control.{Test, after_turn, each, forever, is_own, loop, tested, turn, turns}
-use Rattle.pl_world.specs.Errors.{Spot, raised}
-use Rattle.pl_world.specs.Running.{Runner, all, stepped}
-use Rattle.pl_world.specs.Variables.{with_value}
-use Rattle.pl_world.specs.World.{Ran, World, and_then, behind, ends}
-use Rattle.pl_world.specs.declared.outcome.Outcome.{Outcome}
-use Rattle.pl_world.specs.declared.outcome.Outcome.TheVariants as outcome
+use Rattle.pl_engine.specs.pl_world.Control.{Test, after_turn, each, forever, is_own, loop, tested, turn, turns}
+use Rattle.pl_engine.specs.pl_world.Errors.{Spot, raised}
+use Rattle.pl_engine.specs.pl_world.Running.{Runner, all, stepped}
+use Rattle.pl_engine.specs.pl_world.Variables.{with_value}
+use Rattle.pl_engine.specs.pl_world.World.{Ran, World, and_then, behind, ends}
+use Rattle.pl_engine.specs.pl_world.declared.outcome.Outcome.{Outcome}
+use Rattle.pl_engine.specs.pl_world.declared.outcome.Outcome.TheVariants as outcome
 
 -- ---- what is behind a turn
 

@@ -8,21 +8,21 @@ use Rattle.pl_base.specs.declared.types.Ty.TheVariants.{Bool as Boolean, Int as 
 use Rattle.pl_base.specs.declared.value.Value.{Value, Row'}
 use Rattle.pl_base.specs.declared.value.Value.TheVariants as value
 use Rattle.pl_tree.specs.declared.tree.Expr.{Expr}
-use Rattle.pl_scope.specs.declared.resolve.ResolvedExpr.{ResolvedExpr}
+use Rattle.pl_engine.specs.pl_scope.declared.resolve.ResolvedExpr.{ResolvedExpr}
 use Rattle.pl_typing.specs.Resolved.{Resolved}
 use Rattle.pl_value.specs.Combined.{is_true}
 use Rattle.pl_value.specs.Reading.{Reading, got, fails}
-use Rattle.pl_world.specs.Calls.{Within}
-use Rattle.pl_world.specs.Control.{as_number, bound, positive, stride, tested}
-use Rattle.pl_world.specs.Conversions.{as_truth, as_type, converted, settled}
-use Rattle.pl_world.specs.Errors.{Spot, as_run_state, failure, place, raised, raises, resolved, resolves}
-use Rattle.pl_world.specs.Expressions.{evaluated, failing, read, reads, value_over}
-use Rattle.pl_world.specs.Resolving.{reading}
-use Rattle.pl_world.specs.Running.{Runner, stepped, stepped_by}
-use Rattle.pl_world.specs.Variables.{row_of}
-use Rattle.pl_world.specs.World.{Event, Raised, Ran, Stepped, World, and_then, behind, ends, made}
-use Rattle.pl_world.specs.declared.outcome.Outcome.{Outcome}
-use Rattle.pl_world.specs.declared.outcome.Outcome.TheVariants as outcome
+use Rattle.pl_engine.specs.pl_world.Calls.{Within}
+use Rattle.pl_engine.specs.pl_world.Control.{as_number, bound, positive, stride, tested}
+use Rattle.pl_engine.specs.pl_world.Conversions.{as_truth, as_type, converted, settled}
+use Rattle.pl_engine.specs.pl_world.Errors.{Spot, as_run_state, failure, place, raised, raises, resolved, resolves}
+use Rattle.pl_engine.specs.pl_world.Expressions.{evaluated, failing, read, reads, value_over}
+use Rattle.pl_engine.specs.pl_world.Resolving.{reading}
+use Rattle.pl_engine.specs.pl_world.Running.{Runner, stepped, stepped_by}
+use Rattle.pl_engine.specs.pl_world.Variables.{row_of}
+use Rattle.pl_engine.specs.pl_world.World.{Event, Raised, Ran, Stepped, World, and_then, behind, ends, made}
+use Rattle.pl_engine.specs.pl_world.declared.outcome.Outcome.{Outcome}
+use Rattle.pl_engine.specs.pl_world.declared.outcome.Outcome.TheVariants as outcome
 
 -- ---- runs
 

@@ -5,12 +5,12 @@ use Rattle.pl_base.specs.declared.value.Value.TheVariants.{Int}
 use Rattle.pl_bodies.specs.declared.statement.Statement.{Statement}
 use Rattle.pl_names.specs.Names.{Name}
 use Rattle.pl_value.specs.Combined.{is_true}
-use Rattle.pl_world.specs.Control.{Test, is_own, turn}
-use Rattle.pl_world.specs.Errors.{Spot, raised}
-use Rattle.pl_world.specs.Running.{Runner}
-use Rattle.pl_world.specs.World.{World, Ran, ends}
-use Rattle.pl_world.specs.declared.outcome.Outcome.{Outcome}
-use Rattle.pl_world.specs.declared.outcome.Outcome.TheVariants as outcome
+use Rattle.pl_engine.specs.pl_world.Control.{Test, is_own, turn}
+use Rattle.pl_engine.specs.pl_world.Errors.{Spot, raised}
+use Rattle.pl_engine.specs.pl_world.Running.{Runner}
+use Rattle.pl_engine.specs.pl_world.World.{World, Ran, ends}
+use Rattle.pl_engine.specs.pl_world.declared.outcome.Outcome.{Outcome}
+use Rattle.pl_engine.specs.pl_world.declared.outcome.Outcome.TheVariants as outcome
 
 -- ---- answers; an outcome that is none ends the statement
 

@@ -3,7 +3,7 @@ use Rattle.std.specs.Prelude.{FitsSigned, ◌≡◌, ℤ, List, [], ◌∷◌, O
 use Rattle.std.specs.Int.{w32}
 use Rattle.std.specs.List.{AllByRecursion}
 use Rattle.pl_flow.specs.declared.ranges.Counting.{Counting}
-use Rattle.pl_world.specs.Control.{counted_from}
+use Rattle.pl_engine.specs.pl_world.Control.{counted_from}
 
 abbrev pub numbers_in : Counting → List ℤ
 numbers_in r = counted_from r.first r.step r.count

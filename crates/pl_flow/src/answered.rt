@@ -6,7 +6,7 @@ ghost use Rattle.pl_flow.specs.Answered as spec;
 ghost use Rattle.pl_value.specs.Combined as combined;
 
 use pl_base::Value;
-use pl_world::Outcome;
+use pl_engine::pl_world::Outcome;
 
 /// The value is true; null isn't.
 pub fn is_true(v: &Value) -> bool

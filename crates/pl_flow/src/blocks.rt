@@ -6,14 +6,14 @@ ghost use Rattle.pl_engine.specs.Engines.{kept, world};
 ghost use Rattle.pl_engine.specs.Runs.{Runs};
 ghost use Rattle.pl_engine.specs.Texts.{do_bodies};
 ghost use Rattle.pl_bodies.specs.declared.statement.Block.{out-Block};
-ghost use Rattle.pl_world.specs.Blocks as spec;
-ghost use Rattle.pl_world.specs.Statements.{runner_for};
-ghost use Rattle.pl_world.specs.declared.outcome.Outcome.TheVariants as outcome;
+ghost use Rattle.pl_engine.specs.pl_world.Blocks as spec;
+ghost use Rattle.pl_engine.specs.pl_world.Statements.{runner_for};
+ghost use Rattle.pl_engine.specs.pl_world.declared.outcome.Outcome.TheVariants as outcome;
 
 use pl_base::Name;
 use pl_bodies::{Block, Declaration};
+use pl_engine::pl_world::Outcome;
 use pl_engine::{Ask, Engine, Port, Runner, Spot, Stop, Task, all, ask};
-use pl_world::Outcome;
 
 // EXIT names the block.
 fn is_named(label: &Option<Name>, to: &Option<Name>) -> bool

@@ -6,15 +6,15 @@ ghost use Rattle.pl_engine.specs.Engines.{kept, world};
 ghost use Rattle.pl_engine.specs.Runs.{Runs};
 ghost use Rattle.pl_engine.specs.Asks.{truth};
 ghost use Rattle.pl_engine.specs.Texts.{do_bodies};
-ghost use Rattle.pl_world.specs.Control as spec;
-ghost use Rattle.pl_world.specs.Statements.{runner_for};
+ghost use Rattle.pl_engine.specs.pl_world.Control as spec;
+ghost use Rattle.pl_engine.specs.pl_world.Statements.{runner_for};
 
 use crate::answered::truth_of;
 use pl_base::{Boxed, State};
 use pl_bodies::{CaseArm, Otherwise};
+use pl_engine::pl_world::Outcome;
 use pl_engine::{Ask, Engine, Port, Runner, Spot, Stop, Task, all, ask};
 use pl_tree::Expr;
-use pl_world::Outcome;
 
 /// CASE that finds no arm: the statements of ELSE. 20000 where there is none.
 pub fn not_found<P: Port, F>(

@@ -5,15 +5,15 @@ ghost use Rattle.pl_engine.specs.Answers.{Answers};
 ghost use Rattle.pl_engine.specs.Engines.{kept, world};
 ghost use Rattle.pl_engine.specs.Runs.{Runs};
 ghost use Rattle.pl_engine.specs.Texts.{do_bodies};
-ghost use Rattle.pl_world.specs.Control as spec;
-ghost use Rattle.pl_world.specs.Statements.{runner_for};
+ghost use Rattle.pl_engine.specs.pl_world.Control as spec;
+ghost use Rattle.pl_engine.specs.pl_world.Statements.{runner_for};
 
 use crate::answered::truth_of;
 use pl_base::{Boxed, Name};
 use pl_bodies::Jump;
+use pl_engine::pl_world::Outcome;
 use pl_engine::{Ask, Engine, Port, Runner, Spot, Stop, Task, ask};
 use pl_tree::Expr;
-use pl_world::Outcome;
 
 fn jumped(jump: Jump, label: Option<Name>) -> Outcome
     ensures { result ≡ spec.jumped jump label }

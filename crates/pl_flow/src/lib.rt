@@ -19,3 +19,4 @@ pub use cases::{not_found, searched};
 pub use jumps::jump;
 pub use loops::{forever, while_true};
 pub use numbers::{Numbers, for_numbers};
+pub use pl_engine;

@@ -6,16 +6,16 @@ ghost use Rattle.pl_engine.specs.Engines.{kept, world};
 ghost use Rattle.pl_engine.specs.Runs.{Runs};
 ghost use Rattle.pl_engine.specs.Texts.{do_bodies};
 ghost use Rattle.pl_flow.specs.Answered as spec;
-ghost use Rattle.pl_world.specs.Control as control;
-ghost use Rattle.pl_world.specs.Statements.{runner_for};
+ghost use Rattle.pl_engine.specs.pl_world.Control as control;
+ghost use Rattle.pl_engine.specs.pl_world.Statements.{runner_for};
 
 use crate::answered::{going, truth_of};
 use crate::turns::turn;
 use pl_base::{Name, State};
 use pl_bodies::Statement;
+use pl_engine::pl_world::Outcome;
 use pl_engine::{Ask, Engine, Port, Runner, Spot, Stop, Task, ask};
 use pl_tree::Expr;
-use pl_world::Outcome;
 
 /// LOOP
 pub fn forever<P: Port, F>(

@@ -6,17 +6,17 @@ ghost use Rattle.pl_engine.specs.Engines.{Quiet, kept, world};
 ghost use Rattle.pl_engine.specs.Runs.{Runs};
 ghost use Rattle.pl_engine.specs.Texts.{do_bodies};
 ghost use Rattle.pl_flow.specs.Ranges.{AreIntegers, numbers_in};
-ghost use Rattle.pl_world.specs.Control as spec;
-ghost use Rattle.pl_world.specs.Statements.{runner_for};
+ghost use Rattle.pl_engine.specs.pl_world.Control as spec;
+ghost use Rattle.pl_engine.specs.pl_world.Statements.{runner_for};
 
 use crate::answered::{going, number_of};
 use crate::ranges::{Counting, range};
 use crate::turns::turn;
 use pl_base::{Boxed, Name, State, Ty, Value};
 use pl_bodies::Statement;
+use pl_engine::pl_world::Outcome;
 use pl_engine::{Ask, Engine, Port, Runner, Spot, Stop, Task, ask};
 use pl_tree::Expr;
-use pl_world::Outcome;
 
 /// A FOR over numbers.
 #[derive(Clone, Copy)]

@@ -2,7 +2,7 @@
 
 ghost use Rattle.std.specs.Prelude.{◌≡◌, ◌<◌, ◌≤◌, IfSome, int_le, pos, false};
 ghost use Rattle.pl_flow.specs.Ranges.{AreIntegers, Gives, numbers_in};
-ghost use Rattle.pl_world.specs.Control as spec;
+ghost use Rattle.pl_engine.specs.pl_world.Control as spec;
 
 /// The numbers that are left, in the order of a FOR, each so far from the one before.
 #[derive(Clone, Copy)]

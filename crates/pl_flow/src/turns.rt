@@ -6,14 +6,14 @@ ghost use Rattle.pl_engine.specs.Engines.{kept, world};
 ghost use Rattle.pl_engine.specs.Runs.{Runs};
 ghost use Rattle.pl_engine.specs.Texts.{do_bodies};
 ghost use Rattle.pl_flow.specs.Answered as spec;
-ghost use Rattle.pl_world.specs.Control as control;
-ghost use Rattle.pl_world.specs.Statements.{runner_for};
-ghost use Rattle.pl_world.specs.declared.outcome.Outcome.TheVariants as outcome;
+ghost use Rattle.pl_engine.specs.pl_world.Control as control;
+ghost use Rattle.pl_engine.specs.pl_world.Statements.{runner_for};
+ghost use Rattle.pl_engine.specs.pl_world.declared.outcome.Outcome.TheVariants as outcome;
 
 use pl_base::{Name, State};
 use pl_bodies::Statement;
+use pl_engine::pl_world::Outcome;
 use pl_engine::{Engine, Port, Runner, Spot, Stop, Task, all};
-use pl_world::Outcome;
 
 // EXIT and CONTINUE name this loop, or none.
 fn is_own(label: &Option<Name>, to: &Option<Name>) -> bool

@@ -4,20 +4,20 @@ use Rattle.std.proofs.Math.Seq.{get_or-append_seam, take-append_seam}
 use Rattle.pl_base.specs.declared.fail.Fail.{Fail}
 use Rattle.pl_bodies.specs.declared.statement.Handler.{Handler}
 use Rattle.pl_bodies.specs.declared.statement.Statement.{Statement}
-use Rattle.pl_engine.proofs.Joins.{Lawful, becomes, ended, quietly, start}
-use Rattle.pl_engine.specs.Answers.{Done, Partway}
-use Rattle.pl_engine.specs.Engines.{Kept, kept, world}
-use Rattle.pl_engine.specs.Handling.{kept_at, with_mark, with_marks}
-use Rattle.pl_engine.specs.declared.engine.Engine.{Engine}
-use Rattle.pl_engine.specs.declared.port.Port.{Ghosts}
+use Rattle.pl_flow.proofs.of_pl_engine.Joins.{Lawful, becomes, ended, quietly, start}
+use Rattle.pl_flow.specs.pl_engine.Answers.{Done, Partway}
+use Rattle.pl_flow.specs.pl_engine.Engines.{Kept, kept, world}
+use Rattle.pl_flow.specs.pl_engine.Handling.{kept_at, with_mark, with_marks}
+use Rattle.pl_flow.specs.pl_engine.declared.engine.Engine.{Engine}
+use Rattle.pl_flow.specs.pl_engine.declared.port.Port.{Ghosts}
 use Rattle.pl_names.specs.Names.{Name}
 use Rattle.pl_undo.specs.Database.{Database}
-use Rattle.pl_world.specs.Blocks.{caught, deeper, handled_by, handled_end, handler_for, handling, protected, with_handled, with_sqlstate}
-use Rattle.pl_world.specs.Running.{Runner, all}
-use Rattle.pl_world.specs.Variables.{declared, opened}
-use Rattle.pl_world.specs.World.{Ran, World, and_then, ends}
-use Rattle.pl_world.specs.declared.outcome.Outcome.{Outcome}
-use Rattle.pl_world.specs.declared.outcome.Outcome.TheVariants as outcome
+use Rattle.pl_conditions.specs.pl_world.Blocks.{caught, deeper, handled_by, handled_end, handler_for, handling, protected, with_handled, with_sqlstate}
+use Rattle.pl_conditions.specs.pl_world.Running.{Runner, all}
+use Rattle.pl_conditions.specs.pl_world.Variables.{declared, opened}
+use Rattle.pl_conditions.specs.pl_world.World.{Ran, World, and_then, ends}
+use Rattle.pl_conditions.specs.pl_world.declared.outcome.Outcome.{Outcome}
+use Rattle.pl_conditions.specs.pl_world.declared.outcome.Outcome.TheVariants as outcome
 
 -- ---- the meaning, opened
 

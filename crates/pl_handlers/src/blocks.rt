@@ -1,18 +1,18 @@
 //! Blocks: PostgreSQL manual, "PL/pgSQL", "Structure of PL/pgSQL".
 
 ghost use Rattle.std.specs.Prelude.{◌≡◌, ◌≤◌, OnOk};
-ghost use Rattle.pl_engine.specs.Answers.{Answers};
-ghost use Rattle.pl_engine.specs.Engines.{kept, world};
-ghost use Rattle.pl_engine.specs.Runs.{Runs};
-ghost use Rattle.pl_engine.specs.Texts.{do_bodies};
-ghost use Rattle.pl_world.specs.Blocks as spec;
-ghost use Rattle.pl_world.specs.Statements.{runner_for};
+ghost use Rattle.pl_flow.specs.pl_engine.Answers.{Answers};
+ghost use Rattle.pl_flow.specs.pl_engine.Engines.{kept, world};
+ghost use Rattle.pl_flow.specs.pl_engine.Runs.{Runs};
+ghost use Rattle.pl_flow.specs.pl_engine.Texts.{do_bodies};
+ghost use Rattle.pl_conditions.specs.pl_world.Blocks as spec;
+ghost use Rattle.pl_conditions.specs.pl_world.Statements.{runner_for};
 
 use crate::protecting::protected;
 use pl_bodies::Block;
-use pl_engine::{Engine, Port, Runner, Spot, Stop, Task};
+use pl_conditions::pl_world::Outcome;
+use pl_flow::pl_engine::{Engine, Port, Runner, Spot, Stop, Task};
 use pl_flow::{block_end, declare};
-use pl_world::Outcome;
 
 // The declarations, and then the statements. No handler catches an error of the declarations.
 fn within<P: Port, F>(

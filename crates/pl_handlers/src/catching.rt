@@ -3,23 +3,23 @@
 ghost use Rattle.std.specs.Prelude.{◌≡◌, ◌<◌, ◌≤◌, OnOk};
 ghost use Rattle.std.specs.Option.{option_copied};
 ghost use Rattle.pl_bodies.specs.declared.statement.Block.{out-Block};
-ghost use Rattle.pl_engine.specs.Answers.{Answers};
-ghost use Rattle.pl_engine.specs.Engines.{kept, world};
-ghost use Rattle.pl_engine.specs.Handling.{kept_at, with_marks};
-ghost use Rattle.pl_engine.specs.Runs.{Runs};
-ghost use Rattle.pl_engine.specs.Texts.{do_bodies};
-ghost use Rattle.pl_world.specs.Blocks as spec;
-ghost use Rattle.pl_world.specs.Running as running;
-ghost use Rattle.pl_world.specs.Statements.{runner_for};
-ghost use Rattle.pl_world.specs.World.{and_then};
-ghost use Rattle.pl_world.specs.declared.outcome.Outcome.TheVariants as outcome;
+ghost use Rattle.pl_flow.specs.pl_engine.Answers.{Answers};
+ghost use Rattle.pl_flow.specs.pl_engine.Engines.{kept, world};
+ghost use Rattle.pl_flow.specs.pl_engine.Handling.{kept_at, with_marks};
+ghost use Rattle.pl_flow.specs.pl_engine.Runs.{Runs};
+ghost use Rattle.pl_flow.specs.pl_engine.Texts.{do_bodies};
+ghost use Rattle.pl_conditions.specs.pl_world.Blocks as spec;
+ghost use Rattle.pl_conditions.specs.pl_world.Running as running;
+ghost use Rattle.pl_conditions.specs.pl_world.Statements.{runner_for};
+ghost use Rattle.pl_conditions.specs.pl_world.World.{and_then};
+ghost use Rattle.pl_conditions.specs.pl_world.declared.outcome.Outcome.TheVariants as outcome;
 
 use pl_base::{Fail, List, Name};
 use pl_bodies::{Block, Handler, Statement};
 use pl_conditions::matches_one;
-use pl_engine::{Engine, Port, Runner, Stop, Task, all};
+use pl_conditions::pl_world::Outcome;
+use pl_flow::pl_engine::{Engine, Port, Runner, Stop, Task, all};
 use pl_undo::Mark;
-use pl_world::Outcome;
 
 // The statements of the first handler that catches the error.
 fn handler_for<'h>(mut handlers: &'h [Handler], f: &Fail) -> Option<&'h List<Statement>>

@@ -7,3 +7,4 @@ mod catching;
 mod protecting;
 
 pub use blocks::block;
+pub use pl_flow;

@@ -2,17 +2,17 @@
 
 ghost use Rattle.std.specs.Prelude.{◌≡◌, ◌≤◌, OnOk};
 ghost use Rattle.pl_bodies.specs.declared.statement.Block.{out-Block};
-ghost use Rattle.pl_engine.specs.Answers.{Answers};
-ghost use Rattle.pl_engine.specs.Engines.{kept, world};
-ghost use Rattle.pl_engine.specs.Runs.{Runs};
-ghost use Rattle.pl_engine.specs.Texts.{do_bodies};
-ghost use Rattle.pl_world.specs.Blocks as spec;
-ghost use Rattle.pl_world.specs.Statements.{runner_for};
+ghost use Rattle.pl_flow.specs.pl_engine.Answers.{Answers};
+ghost use Rattle.pl_flow.specs.pl_engine.Engines.{kept, world};
+ghost use Rattle.pl_flow.specs.pl_engine.Runs.{Runs};
+ghost use Rattle.pl_flow.specs.pl_engine.Texts.{do_bodies};
+ghost use Rattle.pl_conditions.specs.pl_world.Blocks as spec;
+ghost use Rattle.pl_conditions.specs.pl_world.Statements.{runner_for};
 
 use crate::catching::catch;
 use pl_bodies::Block;
-use pl_engine::{Engine, Port, Runner, Stop, Task, all};
-use pl_world::Outcome;
+use pl_conditions::pl_world::Outcome;
+use pl_flow::pl_engine::{Engine, Port, Runner, Stop, Task, all};
 
 /// The statements of a block, which its handlers protect if it has any.
 pub(crate) fn protected<P: Port, F>(

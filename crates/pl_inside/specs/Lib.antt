@@ -1,1 +1,2 @@
 pub mod Agreement
+pub use Rattle.pl_query.specs as pl_query

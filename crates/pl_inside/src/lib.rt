@@ -5,4 +5,5 @@ mod asking;
 mod reading;
 
 pub use asking::{any_has_query, has_query, if_has_query};
+pub use pl_query;
 pub use reading::tables_read;

@@ -13,10 +13,10 @@ use Rattle.pl_base.specs.declared.types.Ty.{Ty}
 use Rattle.pl_base.specs.declared.types.Ty.TheVariants as ty
 use Rattle.pl_base.specs.declared.value.Value.{Value}
 use Rattle.pl_base.specs.declared.value.Value.TheVariants as made
-use Rattle.pl_calc.specs.Answer.{Answer}
-use Rattle.pl_calc.specs.Comparison.{holds}
-use Rattle.pl_calc.specs.Logic.{is_null, truth_of, truth_value}
-use Rattle.pl_calc.specs.Operators.{binary_value}
+use Rattle.pl_rules.specs.pl_calc.Answer.{Answer}
+use Rattle.pl_rules.specs.pl_calc.Comparison.{holds}
+use Rattle.pl_rules.specs.pl_calc.Logic.{is_null, truth_of, truth_value}
+use Rattle.pl_rules.specs.pl_calc.Operators.{binary_value}
 use Rattle.pl_catalog.specs.declared.object.Column.{Column}
 use Rattle.pl_journal.specs.ByKey.{Asks, AreAsked, AreCompared, Begins, IsFixed, IsTest, compares, operands}
 use Rattle.pl_journal.proofs.Truths.{false_true, none_some, some_is}

@@ -18,9 +18,9 @@ use Rattle.pl_journal.specs.Journal.{IsKept}
 use Rattle.pl_journal.specs.Steps.{Continues}
 use Rattle.pl_journal.proofs.Opening.{define_done, noticed}
 use Rattle.pl_journal.proofs.Steps.{kept_more}
-use Rattle.pl_reading.specs.Computed.{definition_in}
+use Rattle.pl_define.specs.pl_reading.Computed.{definition_in}
 use Rattle.pl_tree.specs.declared.command.Definition.{Definition}
-use Rattle.pl_typing.specs.Resolved.{Resolved}
+use Rattle.pl_define.specs.pl_typing.Resolved.{Resolved}
 use Rattle.pl_undo.specs.Store.{Stored}
 
 module _ (known objects : List Object) (same : known ≡ objects) (definition : Definition) (text : List ℕ) (d : Defined) (is : defined known definition text ≡ Ok d) where

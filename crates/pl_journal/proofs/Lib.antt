@@ -21,3 +21,4 @@ pub mod Noted
 pub mod Asked
 pub mod TurnedDown
 pub mod LeftOut
+pub use Rattle.pl_define.proofs.of_pl_reading

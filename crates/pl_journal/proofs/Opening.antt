@@ -22,15 +22,15 @@ use Rattle.pl_journal.proofs.Steps.{put_done, put_none, stands, untaken_beside}
 use Rattle.pl_journal.proofs.Stored.{holds_of, passed}
 use Rattle.pl_journal.proofs.Taken.{away, taken}
 use Rattle.pl_journal.proofs.Truths.{and_false, held, none_some, some_is}
-use Rattle.pl_reading.proofs.Definitions.{found}
-use Rattle.pl_reading.specs.Computed.{definition_in}
+use Rattle.pl_define.proofs.of_pl_reading.Definitions.{found}
+use Rattle.pl_define.specs.pl_reading.Computed.{definition_in}
 use Rattle.pl_rules.proofs.Holding.{all_hold}
 use Rattle.pl_rules.specs.Rules.{first_failure, holds}
 use Rattle.pl_rules.specs.declared.rules.RuleFail.{RuleFail}
 use Rattle.pl_tables.specs.Named.{content_named, has_room_named, next_named, HoldsIn}
 use Rattle.pl_tables.specs.Rows.{Content, Holds, has_room, put_at, raised}
 use Rattle.pl_tree.specs.declared.command.Definition.{Definition}
-use Rattle.pl_typing.specs.Resolved.{Resolved}
+use Rattle.pl_define.specs.pl_typing.Resolved.{Resolved}
 use Rattle.pl_undo.specs.Database.{Database, on_rows, with_exchanged, with_object, without_object}
 use Rattle.pl_undo.specs.DatabaseLaws.{content_of_table}
 use Rattle.pl_undo.specs.Store.{Stored}

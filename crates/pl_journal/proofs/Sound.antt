@@ -28,12 +28,12 @@ use Rattle.pl_journal.proofs.OneContent.{new_sound, none_other, put_sound, raise
 use Rattle.pl_journal.proofs.OneTable as one
 use Rattle.pl_journal.proofs.OneTable.{content_changed, same_text}
 use Rattle.pl_journal.proofs.Truths.{below, chained, first_true, held, mapped, none_some, not_true, second_true, some_is, tested, upto}
-use Rattle.pl_reading.specs.Computed.{definition_in}
+use Rattle.pl_define.specs.pl_reading.Computed.{definition_in}
 use Rattle.pl_rules.specs.Rules.{holds}
 use Rattle.pl_tables.specs.Named.{Named, content_named, named, next_named, on_table, row_named}
 use Rattle.pl_tables.specs.Rows.{Content, has_room, no_rows, put_at, raised, removed}
 use Rattle.pl_tree.specs.declared.command.Definition.{Definition}
-use Rattle.pl_typing.specs.Resolved.{Resolved}
+use Rattle.pl_define.specs.pl_typing.Resolved.{Resolved}
 use Rattle.pl_undo.specs.Database.{Database, keys_in, on_rows, with_exchanged, with_object, without_object}
 use Rattle.pl_undo.specs.DatabaseLaws.{content_of_table, whole_exchanged, whole_on, whole_with, whole_without}
 use Rattle.pl_value.specs.Frames.{Row}

@@ -7,7 +7,7 @@ use Rattle.pl_base.specs.declared.types.Ty.{Ty}
 use Rattle.pl_base.specs.declared.types.Ty.TheVariants as ty
 use Rattle.pl_base.specs.declared.value.Value.{Value, Row'}
 use Rattle.pl_base.specs.declared.value.Value.TheVariants.{Null, Int, Big, Text, Bool as Truth}
-use Rattle.pl_calc.specs.Casts.{text_limit}
+use Rattle.pl_rules.specs.pl_calc.Casts.{text_limit}
 use Rattle.pl_catalog.specs.Objects.{table_named, tables_in}
 use Rattle.pl_catalog.specs.declared.object.Column.{Column}
 use Rattle.pl_catalog.specs.declared.object.Object.TheVariants as object

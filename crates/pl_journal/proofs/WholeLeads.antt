@@ -27,7 +27,7 @@ use Rattle.pl_journal.proofs.WholeTables.{content_last, filled}
 use Rattle.pl_tables.specs.Named.{content_named, named, Named}
 use Rattle.pl_tables.specs.Rows.{no_rows, Content}
 use Rattle.pl_tree.specs.declared.command.Definition.{Definition}
-use Rattle.pl_typing.specs.Resolved.{Resolved}
+use Rattle.pl_define.specs.pl_typing.Resolved.{Resolved}
 use Rattle.pl_undo.specs.Database.{Database, database, keys_in, names_of, table_names, with_object}
 use Rattle.pl_undo.specs.DatabaseLaws.{absent_content, whole_with}
 

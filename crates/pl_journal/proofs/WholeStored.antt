@@ -16,7 +16,7 @@ use Rattle.pl_journal.proofs.Stored.{fits_stored}
 use Rattle.pl_journal.proofs.Truths.{and_true, first_true, is_below, second_true}
 use Rattle.pl_journal.proofs.WholeLeads.{table_last}
 use Rattle.pl_journal.proofs.WholeParts.{stored-append}
-use Rattle.pl_reading.proofs.Definitions.{found}
+use Rattle.pl_define.proofs.of_pl_reading.Definitions.{found}
 use Rattle.pl_rules.specs.Rules.{all_pass, fits, none_lacks}
 use Rattle.pl_tables.specs.Named.{content_named}
 use Rattle.pl_tables.specs.Rows.{Content}

@@ -12,7 +12,7 @@ use Rattle.pl_define.specs.Definition.{defined}
 use Rattle.pl_define.specs.declared.definition.Defined.{Defined}
 use Rattle.pl_define.specs.declared.definition.Defined.TheVariants.{Add, Drop, Nothing, Replace}
 use Rattle.pl_tree.specs.declared.command.Definition.{Definition}
-use Rattle.pl_typing.specs.Resolved.{Resolved}
+use Rattle.pl_define.specs.pl_typing.Resolved.{Resolved}
 use Rattle.pl_undo.specs.Database.{Database, with_exchanged, with_object, without_object}
 
 -- a store can hold the table's name, and how many values a row has

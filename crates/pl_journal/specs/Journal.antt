@@ -11,9 +11,9 @@ use Rattle.pl_journal.specs.Definitions.{Behind, behind}
 use Rattle.pl_journal.specs.Operation.{apply_all}
 use Rattle.pl_journal.specs.Sound.{IsSound}
 use Rattle.pl_tables.specs.Named.{Named, content_named}
-use Rattle.pl_typing.specs.Resolved.{Resolved}
-use Rattle.pl_typing.specs.declared.fail.ScopeFail.{ScopeFail}
-use Rattle.pl_typing.specs.declared.fail.ScopeFail.TheVariants as scope
+use Rattle.pl_define.specs.pl_typing.Resolved.{Resolved}
+use Rattle.pl_define.specs.pl_typing.declared.fail.ScopeFail.{ScopeFail}
+use Rattle.pl_define.specs.pl_typing.declared.fail.ScopeFail.TheVariants as scope
 use Rattle.pl_undo.specs.Database.{Database}
 use Rattle.pl_undo.specs.Store.{Stored}
 use Rattle.pl_value.specs.declared.operand.Unsettled.{Unsettled}

@@ -9,11 +9,11 @@ use Rattle.pl_codec.specs.Reading.{operations_of}
 use Rattle.pl_codec.specs.Spelling.{is_row_id}
 use Rattle.pl_journal.specs.Definitions.{Behind, redefined}
 use Rattle.pl_journal.specs.Writing.{is_taken_beside}
-use Rattle.pl_reading.specs.Computed.{definition_in}
+use Rattle.pl_define.specs.pl_reading.Computed.{definition_in}
 use Rattle.pl_rules.specs.Rules.{holds}
 use Rattle.pl_tables.specs.Named.{content_named, next_named, row_named}
 use Rattle.pl_tables.specs.Rows.{Content, has_room, put_at, raised, removed}
-use Rattle.pl_typing.specs.Resolved.{Resolved}
+use Rattle.pl_define.specs.pl_typing.Resolved.{Resolved}
 use Rattle.pl_undo.specs.Database.{Database, database, on_rows}
 use Rattle.pl_value.specs.Frames.{Row}
 

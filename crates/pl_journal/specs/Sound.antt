@@ -9,7 +9,7 @@ use Rattle.pl_define.specs.Definition.{defined, text_of}
 use Rattle.pl_define.specs.declared.definition.Defined.TheVariants.{Add}
 use Rattle.pl_journal.specs.Definitions.{is_stored_object}
 use Rattle.pl_journal.specs.Writing.{is_taken_beside}
-use Rattle.pl_reading.specs.Computed.{definition_in}
+use Rattle.pl_define.specs.pl_reading.Computed.{definition_in}
 use Rattle.pl_rules.specs.Rules.{holds}
 use Rattle.pl_tables.specs.Named.{content_named}
 use Rattle.pl_tables.specs.Rows.{Content, row_at}

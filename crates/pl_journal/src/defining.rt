@@ -8,15 +8,15 @@ ghost use Rattle.pl_journal.specs.Definitions as spec;
 ghost use Rattle.pl_journal.specs.Definitions.{carried_out, redefined};
 ghost use Rattle.pl_journal.specs.Journal.{IsKept, Redefines};
 ghost use Rattle.pl_journal.specs.Steps.{Continues};
-ghost use Rattle.pl_reading.specs.Computed.{definition_in};
+ghost use Rattle.pl_define.specs.pl_reading.Computed.{definition_in};
 
 use crate::spelling::spell_define;
 use pl_base::{State, Txt};
 use pl_catalog::{CatalogFail, Object, TableDef, Which};
 use pl_codec::is_table_name;
+use pl_define::pl_typing::ScopeFail;
 use pl_define::{Defined, define};
 use pl_tree::Definition;
-use pl_typing::ScopeFail;
 use pl_undo::Store;
 use std::alloc::Global;
 

@@ -14,4 +14,5 @@ mod writing;
 
 pub use by_key::{Candidates, candidates_for};
 pub use journal::Journal;
+pub use pl_define;
 pub use whole::whole_leads_to_itself;

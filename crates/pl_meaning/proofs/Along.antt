@@ -4,7 +4,7 @@ use Rattle.std.specs.Prelude.{slice_get}
 use Rattle.std.proofs.lemmas.List.{append-nil}
 use Rattle.std.proofs.lemmas.Bool.Decides.{nat_tests}
 use Rattle.pl_base.specs.Image.{Image}
-use Rattle.pl_undo.specs.Database.{Database}
+use Rattle.pl_change.specs.pl_undo.Database.{Database}
 use Rattle.pl_meaning.specs.Opening.{opens}
 use Rattle.pl_meaning.specs.Trace.{Event, Committed, Said, Failed, text, last_commit, commits}
 use Rattle.pl_meaning.specs.Covered.{at_least, at_most, Covered, InLine, Along}

@@ -6,9 +6,9 @@ use Rattle.pl_lex.specs.Lexemes.{Lexeme, pieces_from}
 use Rattle.pl_lex.specs.declared.token.Piece.{Piece}
 use Rattle.pl_lex.specs.Computed.{lexemes}
 use Rattle.pl_lex.proofs.Lent.{all_stand, unique}
-use Rattle.pl_reading.specs.declared.reading.Reading.{Reading}
-use Rattle.pl_reading.proofs.Readings.{outcome_only, outcome_read}
-use Rattle.pl_reading.specs.Computed.{pieces_in, readings_of, script_readings}
+use Rattle.pl_change.specs.pl_reading.declared.reading.Reading.{Reading}
+use Rattle.pl_change.proofs.of_pl_reading.Readings.{outcome_only, outcome_read}
+use Rattle.pl_change.specs.pl_reading.Computed.{pieces_in, readings_of, script_readings}
 use Rattle.pl_meaning.specs.Meaning.{AreRead, Readings}
 
 are_read : (text : Text) (pieces : List Piece) → AreRead text pieces (readings_of text pieces)

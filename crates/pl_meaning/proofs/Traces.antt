@@ -2,11 +2,11 @@
 use Rattle.std.proofs.Common.{◌≡◌, ◌&&◌, ◌||◌, List, [], ◌∷◌, ◌++◌, cond, Bool, true, false, refl, sym, ◌∙◌, ap, subst, append_assoc}
 use Rattle.std.proofs.lemmas.List.{append-nil}
 use Rattle.pl_lex.specs.Characters.{Text}
-use Rattle.pl_reading.specs.Computed.{script_readings}
-use Rattle.pl_undo.specs.Database.{Database}
+use Rattle.pl_change.specs.pl_reading.Computed.{script_readings}
+use Rattle.pl_change.specs.pl_undo.Database.{Database}
 use Rattle.pl_meaning.specs.Meaning.{events, trace, IsTrace}
 use Rattle.pl_meaning.specs.Trace.{Event, Said, Failed, Committed, is_failed, last_commit}
-use Rattle.pl_reading.specs.declared.reading.Reading.{Reading}
+use Rattle.pl_change.specs.pl_reading.declared.reading.Reading.{Reading}
 use Rattle.pl_meaning.proofs.Along.{last_commit-append}
 use Rattle.pl_meaning.proofs.Scripts.{readings_only}
 

@@ -7,19 +7,19 @@ use Rattle.pl_print.specs.Tags.{tag_bytes}
 use Rattle.pl_print.specs.declared.reply.Tag.{Tag}
 use Rattle.pl_print.specs.declared.reply.Tag.TheVariants as tag
 use Rattle.pl_resolved.specs.declared.query.Head.{Head}
-use Rattle.pl_targets.specs.Changes.{resolved_delete, resolved_insert, resolved_update}
-use Rattle.pl_targets.specs.declared.change.RChange.{RChange}
-use Rattle.pl_targets.specs.declared.change.RWhat.{RWhat}
-use Rattle.pl_targets.specs.declared.change.RWhat.TheVariants as what
+use Rattle.pl_change.specs.pl_targets.Changes.{resolved_delete, resolved_insert, resolved_update}
+use Rattle.pl_change.specs.pl_targets.declared.change.RChange.{RChange}
+use Rattle.pl_change.specs.pl_targets.declared.change.RWhat.{RWhat}
+use Rattle.pl_change.specs.pl_targets.declared.change.RWhat.TheVariants as what
 use Rattle.pl_tree.specs.declared.command.Delete.{Delete}
 use Rattle.pl_tree.specs.declared.command.Insert.{Insert}
 use Rattle.pl_tree.specs.declared.command.Update.{Update}
-use Rattle.pl_typing.specs.Resolved.{Resolved}
-use Rattle.pl_undo.specs.Database.{Database, database}
-use Rattle.pl_value.specs.Frames.{Row}
-use Rattle.pl_value.specs.NoRoutines.{unknown}
-use Rattle.pl_value.specs.Reading.{Reading, got, fails}
-use Rattle.pl_value.specs.declared.world.NoRoutines.{NoRoutines}
+use Rattle.pl_change.specs.pl_typing.Resolved.{Resolved}
+use Rattle.pl_change.specs.pl_undo.Database.{Database, database}
+use Rattle.pl_change.specs.pl_value.Frames.{Row}
+use Rattle.pl_change.specs.pl_value.NoRoutines.{unknown}
+use Rattle.pl_change.specs.pl_value.Reading.{Reading, got, fails}
+use Rattle.pl_change.specs.pl_value.declared.world.NoRoutines.{NoRoutines}
 use Rattle.pl_meaning.specs.Replies.{error_line, limit_exceeded}
 use Rattle.pl_meaning.specs.Selection.{around, grid_of, has_long, no_variables}
 use Rattle.pl_meaning.specs.Trace.{Event, Said, Failed, Committed}

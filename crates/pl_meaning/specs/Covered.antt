@@ -2,7 +2,7 @@
 use Rattle.std.specs.Prelude.{◌≡◌, ◌⊎◌, ◌≤◌, ◌-◌, ◌==◌, ℕ, suc, List, [], ◌∷◌, ◌++◌, length, Some, Ok, slice_get, nat_lt, if◌then◌else◌}
 use Rattle.pl_base.specs.Image.{Image}
 use Rattle.pl_disk.specs.Disk.{IsPrefix}
-use Rattle.pl_undo.specs.Database.{Database}
+use Rattle.pl_change.specs.pl_undo.Database.{Database}
 use Rattle.pl_meaning.specs.Opening.{opens}
 use Rattle.pl_meaning.specs.Trace.{Event, Said, Failed, Committed, text, commits}
 

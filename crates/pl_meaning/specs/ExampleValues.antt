@@ -3,13 +3,13 @@
 use Rattle.std.specs.Prelude.{pos, false, List, [], ◌∷◌, None, codes}
 use Rattle.pl_base.specs.declared.types.Ty.TheVariants as type
 use Rattle.pl_base.specs.declared.value.Value.TheVariants as value
-use Rattle.pl_catalog.specs.declared.object.Object.{Object}
-use Rattle.pl_catalog.specs.declared.object.Object.TheVariants as object
+use Rattle.pl_change.specs.pl_catalog.declared.object.Object.{Object}
+use Rattle.pl_change.specs.pl_catalog.declared.object.Object.TheVariants as object
 use Rattle.pl_change.specs.Operation.{empty}
 use Rattle.pl_print.specs.Tags.{tag_bytes}
 use Rattle.pl_print.specs.declared.reply.Tag.TheVariants.{CreateTable, Insert}
-use Rattle.pl_tables.specs.Rows.{inserted}
-use Rattle.pl_undo.specs.Database.{Database, on_rows, with_object}
+use Rattle.pl_change.specs.pl_tables.Rows.{inserted}
+use Rattle.pl_change.specs.pl_undo.Database.{Database, on_rows, with_object}
 use Rattle.pl_meaning.specs.Trace.{Event, Said, Committed}
 
 abbrev pub n_of_c : Object

@@ -12,3 +12,18 @@ pub use Rattle.pl_change.specs.Definitions
 pub use Rattle.pl_change.specs.Operation
 pub use Rattle.pl_change.specs.Rows
 pub use Rattle.pl_change.specs.Writing
+pub use Rattle.pl_change.specs.pl_catalog
+pub use Rattle.pl_change.specs as pl_change
+pub use Rattle.pl_change.specs.pl_inside
+pub use Rattle.pl_change.specs.pl_journal
+pub use Rattle.pl_change.specs.pl_names
+pub use Rattle.pl_change.specs.pl_product
+pub use Rattle.pl_change.specs.pl_query
+pub use Rattle.pl_change.specs.pl_reading
+pub use Rattle.pl_change.specs.pl_scope
+pub use Rattle.pl_change.specs.pl_tables
+pub use Rattle.pl_change.specs.pl_targets
+pub use Rattle.pl_change.specs.pl_typing
+pub use Rattle.pl_change.specs.pl_undo
+pub use Rattle.pl_change.specs.pl_value
+pub use Rattle.pl_change.specs.pl_waiting

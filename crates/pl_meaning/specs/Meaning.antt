@@ -15,12 +15,12 @@ use Rattle.pl_tree.specs.declared.command.RoutineKind.TheVariants.{Function, Pro
 use Rattle.pl_print.specs.Tags.{tag_bytes}
 use Rattle.pl_print.specs.declared.reply.Tag.{Tag}
 use Rattle.pl_print.specs.declared.reply.Tag.TheVariants as tag
-use Rattle.pl_reading.specs.Defining.{stored_by}
-use Rattle.pl_reading.specs.Reading.{IsPieceRead}
-use Rattle.pl_reading.specs.declared.reading.Reading.{Reading}
-use Rattle.pl_reading.specs.declared.reading.Reading.TheVariants.{Nothing, Refused, Spelled}
-use Rattle.pl_typing.specs.Resolved.{Resolved}
-use Rattle.pl_undo.specs.Database.{Database}
+use Rattle.pl_change.specs.pl_reading.Defining.{stored_by}
+use Rattle.pl_change.specs.pl_reading.Reading.{IsPieceRead}
+use Rattle.pl_change.specs.pl_reading.declared.reading.Reading.{Reading}
+use Rattle.pl_change.specs.pl_reading.declared.reading.Reading.TheVariants.{Nothing, Refused, Spelled}
+use Rattle.pl_change.specs.pl_typing.Resolved.{Resolved}
+use Rattle.pl_change.specs.pl_undo.Database.{Database}
 use Rattle.pl_meaning.specs.Changing.{deletes, inserts, updates}
 use Rattle.pl_meaning.specs.Replies.{error_line, not_supported, notice_line}
 use Rattle.pl_meaning.specs.Selection.{selects}

@@ -4,7 +4,7 @@ use Rattle.pl_base.specs.Image.{Image}
 use Rattle.pl_base.specs.declared.area.Area.{Area}
 use Rattle.pl_keeper.specs.Batches.{Damage, Log, Stored, batches}
 use Rattle.pl_change.specs.Operation.{apply_all, empty}
-use Rattle.pl_undo.specs.Database.{Database}
+use Rattle.pl_change.specs.pl_undo.Database.{Database}
 
 -- the database after the operations of these batches; or the place of the first of which one doesn't apply
 abbrev pub apply_batches : List Stored → Database → Result Database ℕ

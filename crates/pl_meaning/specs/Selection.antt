@@ -6,21 +6,21 @@ use Rattle.pl_base.specs.declared.types.Ty.{Ty}
 use Rattle.pl_base.specs.declared.value.Value.{Value, Row'}
 use Rattle.pl_base.specs.declared.value.Value.TheVariants.{Text}
 use Rattle.pl_calc.specs.Casts.{text_limit}
-use Rattle.pl_names.specs.declared.scope.Scope.{Scope}
+use Rattle.pl_change.specs.pl_names.declared.scope.Scope.{Scope}
 use Rattle.pl_print.specs.Grids.{grid_bytes}
 use Rattle.pl_print.specs.TextForm.{output}
 use Rattle.pl_print.specs.declared.reply.Grid.{Grid}
-use Rattle.pl_query.specs.Query.{rows}
+use Rattle.pl_change.specs.pl_query.Query.{rows}
 use Rattle.pl_resolved.specs.declared.query.Head.{Head}
 use Rattle.pl_resolved.specs.declared.query.RQuery.{RQuery}
-use Rattle.pl_scope.specs.Resolution.{resolved_query}
+use Rattle.pl_change.specs.pl_scope.Resolution.{resolved_query}
 use Rattle.pl_tree.specs.declared.tree.Query.{Query}
-use Rattle.pl_typing.specs.Resolved.{Resolved}
-use Rattle.pl_undo.specs.Database.{Database}
-use Rattle.pl_value.specs.Frames.{Frame, Row}
-use Rattle.pl_value.specs.NoRoutines.{unknown}
-use Rattle.pl_value.specs.Reading.{Reading, got, fails}
-use Rattle.pl_value.specs.declared.world.NoRoutines.{NoRoutines}
+use Rattle.pl_change.specs.pl_typing.Resolved.{Resolved}
+use Rattle.pl_change.specs.pl_undo.Database.{Database}
+use Rattle.pl_change.specs.pl_value.Frames.{Frame, Row}
+use Rattle.pl_change.specs.pl_value.NoRoutines.{unknown}
+use Rattle.pl_change.specs.pl_value.Reading.{Reading, got, fails}
+use Rattle.pl_change.specs.pl_value.declared.world.NoRoutines.{NoRoutines}
 use Rattle.pl_change.specs.Rows.{tables_of}
 use Rattle.pl_meaning.specs.Replies.{error_line, limit_exceeded}
 use Rattle.pl_meaning.specs.Trace.{Event, Said, Failed}

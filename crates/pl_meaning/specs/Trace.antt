@@ -1,6 +1,6 @@
 -- What a script does, as the list of its events in order.
 use Rattle.std.specs.Prelude.{ℕ, List, [], ◌∷◌, ◌++◌, Bool, true, false}
-use Rattle.pl_undo.specs.Database.{Database}
+use Rattle.pl_change.specs.pl_undo.Database.{Database}
 
 pub data Event : Type 0 where
   -- this line is printed; it is no error's

@@ -6,4 +6,6 @@ mod examples;
 mod script;
 
 pub use examples::examples_hold;
+pub use pl_change;
+pub use pl_change::{pl_define, pl_inside, pl_journal, pl_names, pl_scope};
 pub use script::one_trace;

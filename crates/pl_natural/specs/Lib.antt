@@ -1,1 +1,2 @@
 pub mod Kept
+pub use Rattle.pl_query.specs as pl_query

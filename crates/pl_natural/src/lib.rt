@@ -5,3 +5,4 @@
 mod laws;
 
 pub use laws::{answers_tell, rows_agree, values_agree};
+pub use pl_query;

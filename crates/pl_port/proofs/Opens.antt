@@ -10,8 +10,8 @@ use Rattle.pl_codec.proofs.ReadsBack.{EachOp, all_back}
 use Rattle.pl_codec.specs.ReadBack.{OpReadsBack}
 use Rattle.pl_codec.specs.Reading.{operations_of, ops_within}
 use Rattle.pl_disk.specs.Disk.{View, Keeps}
-use Rattle.pl_journal.specs.Journal.{LeadsTo}
-use Rattle.pl_journal.specs.Operation.{apply_all, apply_payload, empty}
+use Rattle.pl_engine.specs.pl_journal.Journal.{LeadsTo}
+use Rattle.pl_engine.specs.pl_journal.Operation.{apply_all, apply_payload, empty}
 use Rattle.pl_keeper.specs.Batches.{Damage, Log, Stored, batches}
 use Rattle.pl_keeper.specs.Store.{Has, CommittedPayload}
 use Rattle.pl_keeper.specs.declared.head.Head.{Head}

@@ -4,7 +4,7 @@ use Rattle.std.proofs.lemmas.List.{append-nil}
 use Rattle.pl_disk.specs.Disk.{Says, View, Writes}
 use Rattle.pl_disk.specs.Lent.{from_say, run_weaker}
 use Rattle.pl_disk.specs.declared.device.Failed.{Failed}
-use Rattle.pl_journal.specs.Journal.{LeadsTo}
+use Rattle.pl_engine.specs.pl_journal.Journal.{LeadsTo}
 use Rattle.pl_keeper.specs.Store.{CommittedPayload, CommittingPayload}
 use Rattle.pl_keeper.specs.declared.head.Head.{Head}
 use Rattle.pl_meaning.specs.Covered.{AlongFrom}

@@ -4,7 +4,7 @@ use Rattle.std.proofs.lemmas.List.{append-nil}
 use Rattle.pl_disk.specs.Disk.{View}
 use Rattle.pl_disk.specs.Lent.{no_run, run_weaker, runs_on}
 use Rattle.pl_keeper.specs.declared.head.Head.{Head}
-use Rattle.pl_meaning.proofs.Lent.{after, last_commit-append, longer, text-append}
+use Rattle.pl_meaning.proofs.Along.{after, last_commit-append, longer, text-append}
 use Rattle.pl_meaning.specs.Covered.{AlongFrom}
 use Rattle.pl_meaning.specs.Trace.{Event, last_commit, text}
 use Rattle.pl_port.specs.Ports.{Fits, Takes}

@@ -2,7 +2,7 @@
 use Rattle.std.specs.Prelude.{◌≡◌, List, Ok}
 use Rattle.pl_base.specs.Image.{Image}
 use Rattle.pl_disk.specs.Disk.{View, Runs}
-use Rattle.pl_journal.specs.Operation.{empty}
+use Rattle.pl_engine.specs.pl_journal.Operation.{empty}
 use Rattle.pl_keeper.specs.Batches.{Stored}
 use Rattle.pl_keeper.specs.Store.{IsStore}
 use Rattle.pl_keeper.specs.declared.head.Head.{Head}

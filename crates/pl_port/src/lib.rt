@@ -4,4 +4,5 @@
 
 mod store;
 
+pub use pl_engine;
 pub use store::StorePort;

@@ -3,9 +3,9 @@
 ghost use Rattle.std.specs.Prelude.{◌≡◌};
 
 use pl_disk::Host;
+use pl_engine::pl_journal::Journal;
 use pl_engine::{Port, PortFail};
 use pl_frames::FrameFail;
-use pl_journal::Journal;
 use pl_keeper::Keeper;
 use std::alloc::Global;
 

@@ -3,14 +3,14 @@ use Rattle.std.proofs.Common.{◌≡◌, ◌∙◌, ℕ, Bool, List, Ok, Err, ap
 use Rattle.std.specs.Prelude.{min}
 use Rattle.pl_base.specs.States.{SYNTAX_ERROR}
 use Rattle.pl_base.specs.declared.fail.Fail.{Fail}
-use Rattle.pl_calling.proofs.Settled.{read_off, read_on, read_stops}
-use Rattle.pl_calling.specs.Reading.{rows_read}
-use Rattle.pl_engine.proofs.Joins.{Lawful, acted, becomes, ended, quietly}
-use Rattle.pl_engine.specs.Answers.{Done, Partway, Stopped}
-use Rattle.pl_engine.specs.Engines.{Quiet, world}
-use Rattle.pl_engine.specs.declared.engine.Engine.{Engine}
-use Rattle.pl_engine.specs.declared.port.Port.{Ghosts}
-use Rattle.pl_engine.specs.declared.stop.Stop.{Stop}
+use Rattle.pl_asking.proofs.of_pl_calling.Settled.{read_off, read_on, read_stops}
+use Rattle.pl_asking.specs.pl_calling.Reading.{rows_read}
+use Rattle.pl_asking.proofs.of_pl_engine.Joins.{Lawful, acted, becomes, ended, quietly}
+use Rattle.pl_asking.specs.pl_engine.Answers.{Done, Partway, Stopped}
+use Rattle.pl_asking.specs.pl_engine.Engines.{Quiet, world}
+use Rattle.pl_asking.specs.pl_engine.declared.engine.Engine.{Engine}
+use Rattle.pl_asking.specs.pl_engine.declared.port.Port.{Ghosts}
+use Rattle.pl_asking.specs.pl_engine.declared.stop.Stop.{Stop}
 use Rattle.pl_resolved.specs.declared.query.RQuery.{RQuery}
 use Rattle.pl_value.specs.Frames.{Row}
 use Rattle.pl_world.specs.Commands.{Selecting, into_one, performed, selected, without_destination}

@@ -1,7 +1,7 @@
 -- The first row goes into variables, behind what is counted.
 use Rattle.std.proofs.Common.{◌≡◌, ◌∙◌, ℕ, ap, subst}
-use Rattle.pl_engine.specs.Engines.{Quiet, world}
-use Rattle.pl_engine.specs.declared.engine.Engine.{Engine}
+use Rattle.pl_asking.specs.pl_engine.Engines.{Quiet, world}
+use Rattle.pl_asking.specs.pl_engine.declared.engine.Engine.{Engine}
 use Rattle.pl_world.specs.Variables.{counted}
 use Rattle.pl_world.specs.World.{Ran, World, made}
 use Rattle.pl_world.specs.declared.outcome.Outcome.{Outcome}

@@ -2,13 +2,13 @@
 //! Single-Row Result".
 
 ghost use Rattle.std.specs.Prelude.{◌≡◌, length, min, IfOk};
-ghost use Rattle.pl_engine.specs.Engines.{Quiet, kept, world};
+ghost use Rattle.pl_asking.specs.pl_engine.Engines.{Quiet, kept, world};
 ghost use Rattle.pl_world.specs.Commands as spec;
 ghost use Rattle.pl_world.specs.Variables.{counted};
 
+use pl_asking::pl_engine::{Engine, Spot};
 use pl_asking::{Variable, put_all};
 use pl_base::{Cells, Memory, State};
-use pl_engine::{Engine, Spot};
 use pl_world::Outcome;
 
 /// INTO: the first row goes into the variables, or nulls where there is no row. No row is P0002

@@ -11,4 +11,6 @@ mod selecting;
 
 pub use filling::into;
 pub use performing::perform;
+pub use pl_asking;
+pub use pl_asking::{pl_calling, pl_engine};
 pub use queries::run_query;

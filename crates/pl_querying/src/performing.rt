@@ -1,18 +1,18 @@
 //! PERFORM: PostgreSQL manual, "PL/pgSQL", "Executing SQL Commands".
 
 ghost use Rattle.std.specs.Prelude.{◌≡◌, ◌≤◌, OnOk};
-ghost use Rattle.pl_engine.specs.Answers.{Answers};
-ghost use Rattle.pl_engine.specs.Engines.{kept, world};
-ghost use Rattle.pl_engine.specs.Texts.{do_bodies};
+ghost use Rattle.pl_asking.specs.pl_engine.Answers.{Answers};
+ghost use Rattle.pl_asking.specs.pl_engine.Engines.{kept, world};
+ghost use Rattle.pl_asking.specs.pl_engine.Texts.{do_bodies};
 ghost use Rattle.pl_world.specs.Commands as spec;
 ghost use Rattle.pl_world.specs.Errors.{resolved};
 ghost use Rattle.pl_world.specs.Resolving.{querying};
 ghost use Rattle.pl_world.specs.Statements.{runner_for};
 
 use crate::resolving::resolve;
+use pl_asking::pl_calling::query;
+use pl_asking::pl_engine::{BodyRunner, Calls, Engine, Port, Spot, Stop};
 use pl_base::List;
-use pl_calling::query;
-use pl_engine::{BodyRunner, Calls, Engine, Port, Spot, Stop};
 use pl_resolved::RQuery;
 use pl_tree::Query;
 use pl_typing::ScopeFail;

@@ -1,15 +1,15 @@
 //! Queries that are written out: PostgreSQL manual, "PL/pgSQL", "Executing SQL Commands".
 
 ghost use Rattle.std.specs.Prelude.{◌≡◌, ◌≤◌, OnOk};
-ghost use Rattle.pl_engine.specs.Answers.{Answers};
-ghost use Rattle.pl_engine.specs.Engines.{kept, world};
-ghost use Rattle.pl_engine.specs.Texts.{do_bodies};
+ghost use Rattle.pl_asking.specs.pl_engine.Answers.{Answers};
+ghost use Rattle.pl_asking.specs.pl_engine.Engines.{kept, world};
+ghost use Rattle.pl_asking.specs.pl_engine.Texts.{do_bodies};
 ghost use Rattle.pl_world.specs.Statements.{queries, runner_for};
 
 use crate::refusing::run_without_destination;
 use crate::selecting::select_into;
+use pl_asking::pl_engine::{BodyRunner, Calls, Engine, Port, Spot, Stop};
 use pl_bodies::IntoClause;
-use pl_engine::{BodyRunner, Calls, Engine, Port, Spot, Stop};
 use pl_tree::Query;
 use pl_world::Outcome;
 

@@ -2,17 +2,17 @@
 //! Substitution".
 
 ghost use Rattle.std.specs.Prelude.{◌≡◌};
-ghost use Rattle.pl_engine.specs.Engines.{world};
+ghost use Rattle.pl_asking.specs.pl_engine.Engines.{world};
 ghost use Rattle.pl_typing.specs.Resolved.{Gives};
 ghost use Rattle.pl_world.specs.Commands.{selecting};
 ghost use Rattle.pl_world.specs.Resolving.{querying};
 
+use pl_asking::pl_engine::Engine;
+use pl_asking::pl_scope::resolve_query;
 use pl_asking::{Variable, aim_all};
 use pl_base::{Held, List};
 use pl_bodies::Target;
-use pl_engine::Engine;
 use pl_resolved::RQuery;
-use pl_scope::resolve_query;
 use pl_tree::Query;
 use pl_typing::ScopeFail;
 use std::marker::Model;

@@ -1,18 +1,18 @@
 //! SELECT INTO: PostgreSQL manual, "PL/pgSQL", "Executing a Command with a Single-Row Result".
 
 ghost use Rattle.std.specs.Prelude.{◌≡◌, ◌≤◌, OnOk};
-ghost use Rattle.pl_engine.specs.Answers.{Answers};
-ghost use Rattle.pl_engine.specs.Engines.{kept, world};
-ghost use Rattle.pl_engine.specs.Texts.{do_bodies};
+ghost use Rattle.pl_asking.specs.pl_engine.Answers.{Answers};
+ghost use Rattle.pl_asking.specs.pl_engine.Engines.{kept, world};
+ghost use Rattle.pl_asking.specs.pl_engine.Texts.{do_bodies};
 ghost use Rattle.pl_world.specs.Commands.{selected, selecting};
 ghost use Rattle.pl_world.specs.Errors.{resolved};
 ghost use Rattle.pl_world.specs.Statements.{runner_for};
 
 use crate::filling::fill;
 use crate::resolving::{IntoQuery, resolve_into};
+use pl_asking::pl_calling::query;
+use pl_asking::pl_engine::{BodyRunner, Calls, Engine, Port, Spot, Stop};
 use pl_bodies::IntoClause;
-use pl_calling::query;
-use pl_engine::{BodyRunner, Calls, Engine, Port, Spot, Stop};
 use pl_tree::Query;
 use pl_typing::ScopeFail;
 use pl_world::Outcome;

@@ -2,12 +2,12 @@
 use Rattle.std.proofs.Common.{◌≡◌, ◌≤◌, ℕ, Result, Ok, Err, ap, arith, subst, sym}
 use Rattle.std.specs.Result.{IsErr, IsErrAnd}
 use Rattle.pl_base.specs.declared.state.State.{State}
-use Rattle.pl_engine.proofs.Joins.{Lawful, acted, becomes, done, further, stopped}
-use Rattle.pl_engine.specs.Answers.{Done, Partway, Stopped}
-use Rattle.pl_engine.specs.Engines.{Quiet, world}
-use Rattle.pl_engine.specs.declared.engine.Engine.{Engine}
-use Rattle.pl_engine.specs.declared.port.Port.{Ghosts}
-use Rattle.pl_engine.specs.declared.stop.Stop.{Stop}
+use Rattle.pl_asking.proofs.of_pl_engine.Joins.{Lawful, acted, becomes, done, further, stopped}
+use Rattle.pl_asking.specs.pl_engine.Answers.{Done, Partway, Stopped}
+use Rattle.pl_asking.specs.pl_engine.Engines.{Quiet, world}
+use Rattle.pl_asking.specs.pl_engine.declared.engine.Engine.{Engine}
+use Rattle.pl_asking.specs.pl_engine.declared.port.Port.{Ghosts}
+use Rattle.pl_asking.specs.pl_engine.declared.stop.Stop.{Stop}
 use Rattle.pl_raise.specs.Finding.{Finds, FindsHere, Next, Part}
 use Rattle.pl_world.specs.Conversions.{settled}
 use Rattle.pl_world.specs.Errors.{Spot, as_run_state, raised}

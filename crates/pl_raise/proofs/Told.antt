@@ -9,14 +9,14 @@ use Rattle.pl_bodies.specs.declared.simple.Level.TheVariants as level
 use Rattle.pl_bodies.specs.declared.simple.Raise.{Raise}
 use Rattle.pl_bodies.specs.declared.simple.RaiseOption.{RaiseOption}
 use Rattle.pl_bodies.specs.declared.simple.Raised.TheVariants as raising
-use Rattle.pl_engine.proofs.Joins.{Lawful, becomes, start}
-use Rattle.pl_engine.specs.Answers.{Done, Partway, Stopped}
-use Rattle.pl_engine.specs.Asks.{truth}
-use Rattle.pl_engine.specs.Engines.{world}
-use Rattle.pl_engine.specs.declared.engine.Engine.{Engine}
-use Rattle.pl_engine.specs.declared.port.Port.{Ghosts}
-use Rattle.pl_engine.specs.declared.stop.Stop.{Stop}
-use Rattle.pl_flow.proofs.Asked.{asked_off, asked_on, asked_stopped, on_truth, tested_is}
+use Rattle.pl_asking.proofs.of_pl_engine.Joins.{Lawful, becomes, start}
+use Rattle.pl_asking.specs.pl_engine.Answers.{Done, Partway, Stopped}
+use Rattle.pl_asking.specs.pl_engine.Asks.{truth}
+use Rattle.pl_asking.specs.pl_engine.Engines.{world}
+use Rattle.pl_asking.specs.pl_engine.declared.engine.Engine.{Engine}
+use Rattle.pl_asking.specs.pl_engine.declared.port.Port.{Ghosts}
+use Rattle.pl_asking.specs.pl_engine.declared.stop.Stop.{Stop}
+use Rattle.pl_asking.proofs.of_pl_flow.Asked.{asked_off, asked_on, asked_stopped, on_truth, tested_is}
 use Rattle.pl_print.specs.Messages.{notice_bytes}
 use Rattle.pl_print.specs.declared.reply.Level.{Level as Label}
 use Rattle.pl_print.specs.declared.reply.Level.TheVariants as print

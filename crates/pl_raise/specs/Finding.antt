@@ -1,10 +1,10 @@
 -- How the answers of functions stand to a part of a run that finds something.
 use Rattle.std.specs.Prelude.{◌≡◌, Result, Ok, Err}
-use Rattle.pl_engine.specs.Answers.{Done, Partway, Stopped}
-use Rattle.pl_engine.specs.Engines.{Quiet, world}
-use Rattle.pl_engine.specs.declared.engine.Engine.{Engine}
-use Rattle.pl_engine.specs.declared.port.Port.{Ghosts}
-use Rattle.pl_engine.specs.declared.stop.Stop.{Stop}
+use Rattle.pl_asking.specs.pl_engine.Answers.{Done, Partway, Stopped}
+use Rattle.pl_asking.specs.pl_engine.Engines.{Quiet, world}
+use Rattle.pl_asking.specs.pl_engine.declared.engine.Engine.{Engine}
+use Rattle.pl_asking.specs.pl_engine.declared.port.Port.{Ghosts}
+use Rattle.pl_asking.specs.pl_engine.declared.stop.Stop.{Stop}
 use Rattle.pl_world.specs.World.{World, Ran}
 use Rattle.pl_world.specs.declared.outcome.Outcome.{Outcome}
 

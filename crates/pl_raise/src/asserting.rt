@@ -1,17 +1,17 @@
 //! ASSERT: PostgreSQL manual, "PL/pgSQL", "Checking Assertions".
 
 ghost use Rattle.std.specs.Prelude.{◌≡◌, ◌≤◌, OnOk};
-ghost use Rattle.pl_engine.specs.Answers.{Answers};
-ghost use Rattle.pl_engine.specs.Engines.{kept, world};
-ghost use Rattle.pl_engine.specs.Texts.{do_bodies};
+ghost use Rattle.pl_asking.specs.pl_engine.Answers.{Answers};
+ghost use Rattle.pl_asking.specs.pl_engine.Engines.{kept, world};
+ghost use Rattle.pl_asking.specs.pl_engine.Texts.{do_bodies};
 ghost use Rattle.pl_world.specs.Raising as spec;
 ghost use Rattle.pl_world.specs.Statements.{runner_for};
 
 use crate::texts::{Purpose, assertion_failed, text};
+use pl_asking::pl_engine::{BodyRunner, Calls, Engine, Port, Spot, Stop};
+use pl_asking::pl_flow::truth_of;
 use pl_asking::test;
 use pl_base::{Boxed, State};
-use pl_engine::{BodyRunner, Calls, Engine, Port, Spot, Stop};
-use pl_flow::truth_of;
 use pl_tree::Expr;
 use pl_world::Outcome;
 

@@ -1,14 +1,14 @@
 //! GET STACKED DIAGNOSTICS: PostgreSQL manual, "PL/pgSQL", "Obtaining Information about an Error".
 
 ghost use Rattle.std.specs.Prelude.{◌≡◌, [], map, IfOk, unwrap_or};
-ghost use Rattle.pl_engine.specs.Engines.{Quiet, kept, world};
+ghost use Rattle.pl_asking.specs.pl_engine.Engines.{Quiet, kept, world};
 ghost use Rattle.pl_world.specs.Assigning as spec;
 
 use crate::handled::handled_error;
+use pl_asking::pl_engine::{Engine, Spot, message_text};
 use pl_asking::put_at;
 use pl_base::{Fail, Memory, State, Txt, Value};
 use pl_bodies::{StackedItem, StackedTarget};
-use pl_engine::{Engine, Spot, message_text};
 use pl_world::Outcome;
 use std::alloc::{AllocError, Global};
 

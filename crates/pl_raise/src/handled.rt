@@ -1,10 +1,10 @@
 //! The error that a call handles: PostgreSQL manual, "PL/pgSQL", "Trapping Errors".
 
 ghost use Rattle.std.specs.Prelude.{◌≡◌, IfOk, slice_get};
-ghost use Rattle.pl_engine.specs.Engines.{world};
+ghost use Rattle.pl_asking.specs.pl_engine.Engines.{world};
 
+use pl_asking::pl_engine::Engine;
 use pl_base::{Fail, Message, Txt};
-use pl_engine::Engine;
 use std::alloc::{AllocError, Global};
 
 fn copy_message(alloc: Global, message: &Message) -> Result<Message, AllocError>

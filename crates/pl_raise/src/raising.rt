@@ -2,9 +2,9 @@
 
 ghost use Rattle.std.specs.Prelude.{◌≡◌, ◌≤◌, ◌∷◌, [], IfOk, OnOk};
 ghost use Rattle.pl_bodies.specs.declared.simple.Raised.TheVariants as raised;
-ghost use Rattle.pl_engine.specs.Answers.{Answers};
-ghost use Rattle.pl_engine.specs.Engines.{kept, world};
-ghost use Rattle.pl_engine.specs.Texts.{do_bodies};
+ghost use Rattle.pl_asking.specs.pl_engine.Answers.{Answers};
+ghost use Rattle.pl_asking.specs.pl_engine.Engines.{kept, world};
+ghost use Rattle.pl_asking.specs.pl_engine.Texts.{do_bodies};
 ghost use Rattle.pl_raise.specs.Finding.{Finds, FindsHere};
 ghost use Rattle.pl_world.specs.Conversions.{settled};
 ghost use Rattle.pl_world.specs.Raising as spec;
@@ -15,9 +15,9 @@ use crate::reports::Report;
 use crate::settling::settle;
 use crate::telling::tell;
 use crate::texts::{Purpose, text, within_limit};
+use pl_asking::pl_engine::{BodyRunner, Calls, Engine, Port, Spot, Stop};
 use pl_base::{List, Txt};
 use pl_bodies::{Raise, RaiseOption, Raised};
-use pl_engine::{BodyRunner, Calls, Engine, Port, Spot, Stop};
 use pl_tree::Expr;
 use pl_world::Outcome;
 use std::alloc::AllocError;

@@ -1,12 +1,12 @@
 //! RAISE alone: PostgreSQL manual, "PL/pgSQL", "Reporting Errors and Messages".
 
 ghost use Rattle.std.specs.Prelude.{IfOk};
-ghost use Rattle.pl_engine.specs.Engines.{Quiet, world};
+ghost use Rattle.pl_asking.specs.pl_engine.Engines.{Quiet, world};
 ghost use Rattle.pl_world.specs.Raising as spec;
 
 use crate::handled::handled_error;
+use pl_asking::pl_engine::{Engine, Spot};
 use pl_base::State;
-use pl_engine::{Engine, Spot};
 use pl_world::Outcome;
 use std::alloc::AllocError;
 

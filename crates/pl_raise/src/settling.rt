@@ -1,12 +1,12 @@
 //! What a statement finds without an event, or the error that it doesn't.
 
-ghost use Rattle.pl_engine.specs.Engines.{world};
+ghost use Rattle.pl_asking.specs.pl_engine.Engines.{world};
 ghost use Rattle.pl_raise.specs.Finding.{FindsHere};
 ghost use Rattle.pl_world.specs.Conversions.{settled};
 
+use pl_asking::pl_engine::{Engine, Spot};
 use pl_asking::raise_in_run;
 use pl_base::State;
-use pl_engine::{Engine, Spot};
 use pl_world::Outcome;
 
 /// What was found. An error arises here where there is none.

@@ -4,15 +4,15 @@ ghost use Rattle.std.specs.Prelude.{◌≡◌, IfOk, unwrap_or};
 ghost use Rattle.std.specs.Option.{option_map, option_or};
 ghost use Rattle.pl_base.specs.declared.state.State as state;
 ghost use Rattle.pl_bodies.specs.declared.simple.Level.TheVariants as level;
-ghost use Rattle.pl_engine.specs.Answers.{Answers};
-ghost use Rattle.pl_engine.specs.Engines.{Quiet, world};
+ghost use Rattle.pl_asking.specs.pl_engine.Answers.{Answers};
+ghost use Rattle.pl_asking.specs.pl_engine.Engines.{Quiet, world};
 ghost use Rattle.pl_print.specs.Messages.{notice_bytes};
 ghost use Rattle.pl_world.specs.Raising as spec;
 
 use crate::reports::Report;
+use pl_asking::pl_engine::{Engine, Port, Spot, Stop, say};
 use pl_base::{Bytes, Memory, State, Txt};
 use pl_bodies::Level;
-use pl_engine::{Engine, Port, Spot, Stop, say};
 use pl_print::{Level as Label, notice};
 use pl_world::Outcome;
 use std::alloc::{AllocError, Global};

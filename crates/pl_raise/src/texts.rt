@@ -2,8 +2,8 @@
 
 ghost use Rattle.std.specs.Prelude.{◌≡◌, ◌≤◌, IfOk, OnOk};
 ghost use Rattle.pl_base.specs.declared.value.Value.TheVariants.{Null};
-ghost use Rattle.pl_engine.specs.Engines.{kept, world};
-ghost use Rattle.pl_engine.specs.Texts.{do_bodies};
+ghost use Rattle.pl_asking.specs.pl_engine.Engines.{kept, world};
+ghost use Rattle.pl_asking.specs.pl_engine.Texts.{do_bodies};
 ghost use Rattle.pl_raise.specs.Finding.{Finds, FindsHere};
 ghost use Rattle.pl_raise.specs.Texts as texts;
 ghost use Rattle.pl_world.specs.Conversions.{settled};
@@ -11,10 +11,10 @@ ghost use Rattle.pl_world.specs.Raising as spec;
 ghost use Rattle.pl_world.specs.Statements.{runner_for};
 
 use crate::settling::settle;
+use pl_asking::pl_engine::{BodyRunner, Calls, Engine, Port, Spot, Stop};
 use pl_asking::{value, value_of};
 use pl_base::{Memory, State, Txt, Value};
 use pl_calc::TEXT_LIMIT;
-use pl_engine::{BodyRunner, Calls, Engine, Port, Spot, Stop};
 use pl_print::text_of;
 use pl_tree::Expr;
 use pl_world::Outcome;

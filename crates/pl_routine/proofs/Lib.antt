@@ -1,1 +1,2 @@
 mod Answered
+pub use Rattle.pl_body_parse.proofs as of_pl_body_parse

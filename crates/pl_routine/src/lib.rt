@@ -3,4 +3,5 @@
 
 mod reading;
 
+pub use pl_body_rules;
 pub use reading::{BodyFail, read_body};

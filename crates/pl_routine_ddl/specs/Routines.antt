@@ -14,16 +14,16 @@ use Rattle.pl_base.specs.declared.types.Ty.{Ty}
 use Rattle.pl_base.specs.declared.types.Ty.TheVariants as ty
 use Rattle.pl_bodies.specs.declared.statement.Body.{Body}
 use Rattle.pl_calc.specs.Functions.{function_named}
-use Rattle.pl_catalog.specs.Objects.{is_same, routine_named, routines_in, table_named, tables_in}
-use Rattle.pl_catalog.specs.declared.object.Heading.{Heading}
-use Rattle.pl_catalog.specs.declared.object.Object.{Object}
-use Rattle.pl_catalog.specs.declared.object.Routine.{Routine}
-use Rattle.pl_catalog.specs.declared.object.TableDef.{TableDef}
+use Rattle.pl_ddl.specs.pl_catalog.Objects.{is_same, routine_named, routines_in, table_named, tables_in}
+use Rattle.pl_ddl.specs.pl_catalog.declared.object.Heading.{Heading}
+use Rattle.pl_ddl.specs.pl_catalog.declared.object.Object.{Object}
+use Rattle.pl_ddl.specs.pl_catalog.declared.object.Routine.{Routine}
+use Rattle.pl_ddl.specs.pl_catalog.declared.object.TableDef.{TableDef}
 use Rattle.pl_ddl.specs.Definition.{unless}
 use Rattle.pl_ddl.specs.Refusals.{refusal_if, row_refusal}
 use Rattle.pl_ddl.specs.Written.{Name}
 use Rattle.pl_grouping.specs.Words.{same_type, same_types}
-use Rattle.pl_names.specs.Routines.{all_go_in, types_of}
+use Rattle.pl_ddl.specs.pl_names.Routines.{all_go_in, types_of}
 use Rattle.pl_routine_ddl.specs.declared.routines.RoutineDefined.{RoutineDefined}
 use Rattle.pl_routine_ddl.specs.declared.routines.RoutineDefined.TheVariants.{Add, Drop, Nothing, Replace}
 use Rattle.pl_tree.specs.declared.command.NewRoutine.{NewRoutine}
@@ -32,8 +32,8 @@ use Rattle.pl_tree.specs.declared.command.ResultType.{ResultType}
 use Rattle.pl_tree.specs.declared.command.ResultType.TheVariants as results
 use Rattle.pl_tree.specs.declared.command.RoutineKind.{RoutineKind}
 use Rattle.pl_tree.specs.declared.command.RoutineKind.TheVariants.{Function, Procedure}
-use Rattle.pl_typing.specs.Aggregates.{aggregate_named}
-use Rattle.pl_typing.specs.Resolved.{Resolved}
+use Rattle.pl_ddl.specs.pl_typing.Aggregates.{aggregate_named}
+use Rattle.pl_ddl.specs.pl_typing.Resolved.{Resolved}
 
 -- ---- what is looked at before the body
 

@@ -5,4 +5,6 @@
 mod parameters;
 mod routines;
 
+pub use pl_ddl;
+pub use pl_ddl::{pl_catalog, pl_typing};
 pub use routines::{RoutineDefined, create_routine, drop_routine, form_refusal};

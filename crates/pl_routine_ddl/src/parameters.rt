@@ -1,14 +1,14 @@
 //! The parameters and the result of a routine.
 
 ghost use Rattle.std.specs.Prelude.{◌≡◌};
-ghost use Rattle.pl_catalog.specs.Objects.{table_named, tables_in};
+ghost use Rattle.pl_ddl.specs.pl_catalog.Objects.{table_named, tables_in};
 ghost use Rattle.pl_ddl.specs.Refusals.{row_refusal};
 ghost use Rattle.pl_grouping.specs.Words as words;
-ghost use Rattle.pl_names.specs.Routines.{all_go_in, goes_in, types_of};
+ghost use Rattle.pl_ddl.specs.pl_names.Routines.{all_go_in, goes_in, types_of};
 ghost use Rattle.pl_routine_ddl.specs.Routines as spec;
 
 use pl_base::{Name, State, Ty};
-use pl_catalog::Catalog;
+use pl_ddl::pl_catalog::Catalog;
 use pl_tree::{Param, ResultType, Way};
 
 /// Whether each parameter only goes in.

@@ -2,9 +2,9 @@
 
 ghost use Rattle.std.specs.Prelude.{◌≡◌, IfOk, None};
 ghost use Rattle.std.specs.Option.{option_copied};
-ghost use Rattle.pl_catalog.specs.Objects.{tables_in};
+ghost use Rattle.pl_ddl.specs.pl_catalog.Objects.{tables_in};
 ghost use Rattle.pl_routine_ddl.specs.Routines as spec;
-ghost use Rattle.pl_typing.specs.Resolved.{Gives};
+ghost use Rattle.pl_ddl.specs.pl_typing.Resolved.{Gives};
 
 use crate::parameters::{
     all_go_in, keeps_params, keeps_result, params_refusal, result_refusal, same_types,
@@ -12,9 +12,9 @@ use crate::parameters::{
 };
 use pl_base::{List, Name, State, Txt, Ty};
 use pl_calc::function_named;
-use pl_catalog::{Catalog, Heading, Routine, RoutineBody};
+use pl_ddl::pl_catalog::{Catalog, Heading, Routine, RoutineBody};
+use pl_ddl::pl_typing::{ScopeFail, aggregate_named};
 use pl_tree::{NewRoutine, ResultType, RoutineKind};
-use pl_typing::{ScopeFail, aggregate_named};
 use std::alloc::{AllocError, Global};
 
 /// What a definition of a routine does to the catalogue.

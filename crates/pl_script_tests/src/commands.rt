@@ -1,12 +1,12 @@
 //! Sessions that are given one command after the other.
 
 ghost use Rattle.std.specs.Prelude.{◌≡◌, None, IfOk, OnOk};
-ghost use Rattle.pl_session.specs.State.{IsReady};
+ghost use Rattle.pl_cli.specs.pl_session.State.{IsReady};
 
 use crate::report::Report;
 use pl_base::Memory;
+use pl_cli::pl_session::{Halt, Outcome, SessionState, StartFail, Stop};
 use pl_disk::{Area, Host, MemoryHost};
-use pl_session::{Halt, Outcome, SessionState, StartFail, Stop};
 use std::alloc::Global;
 
 /// The steps of a command.

@@ -16,10 +16,10 @@ use Rattle.pl_frames.specs.declared.fail.FrameFail.TheVariants as frames
 use Rattle.pl_keeper.specs.Store.{Recovering, HasSame, Recovered, IsUsed}
 use Rattle.pl_keeper.specs.declared.head.Head.{Head}
 use Rattle.pl_undo.specs.Database.{Database}
-use Rattle.pl_journal.specs.Operation.{empty}
-use Rattle.pl_world.specs.Opening.{apply_batches, in_area, opened_by, opens}
-use Rattle.pl_engine.specs.Engines.{kept, world}
-use Rattle.pl_engine.specs.declared.engine.Engine.{Engine}
+use Rattle.pl_exec.specs.pl_journal.Operation.{empty}
+use Rattle.pl_exec.specs.pl_world.Opening.{apply_batches, in_area, opened_by, opens}
+use Rattle.pl_port.specs.pl_engine.Engines.{kept, world}
+use Rattle.pl_port.specs.pl_engine.declared.engine.Engine.{Engine}
 use Rattle.pl_port.proofs.Opens.{opens_by}
 use Rattle.pl_port.specs.Stores.{Stores}
 use Rattle.pl_session.specs.Halts.{start_fail_of}
@@ -33,9 +33,9 @@ use Rattle.pl_session.specs.declared.state.SessionState.{SessionState}
 use Rattle.pl_session.proofs.Opens.{opens_alike, ready_by}
 use Rattle.pl_transactions.specs.State.{Stands, is_block, paired}
 use Rattle.pl_transactions.specs.declared.transaction.Transaction.{Transaction}
-use Rattle.pl_world.specs.Sessions.{new_session, new_world, session}
-use Rattle.pl_world.specs.World.{World}
-use Rattle.pl_world.specs.declared.session.Mode.TheVariants as mode
+use Rattle.pl_exec.specs.pl_world.Sessions.{new_session, new_world, session}
+use Rattle.pl_exec.specs.pl_world.World.{World}
+use Rattle.pl_exec.specs.pl_world.declared.session.Mode.TheVariants as mode
 
 -- the images after a recover are those from before, or have the same batches
 left_by : (a m : View) → IsLawful a → IsLawful m → a.told → Writes a m (Recovering a) → (c : Image) → m.may_leave c → Recovering a c

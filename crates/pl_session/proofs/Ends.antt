@@ -7,13 +7,13 @@ use Rattle.pl_base.specs.declared.state.State.{State}
 use Rattle.pl_disk.specs.Disk.{View, Keeps, Says}
 use Rattle.pl_disk.specs.Lent.{from_say, run_weaker}
 use Rattle.pl_disk.specs.declared.device.Failed.{Failed as Fault}
-use Rattle.pl_engine.specs.Engines.{world}
-use Rattle.pl_engine.specs.Texts.{do_bodies}
-use Rattle.pl_engine.specs.declared.stop.Stop.{Stop}
-use Rattle.pl_engine.specs.declared.stop.Stop.TheVariants.{Disk, Say, Memory}
-use Rattle.pl_world.proofs.Lent.{last_commit-append, text-append}
-use Rattle.pl_world.specs.Covered.{AlongFrom}
-use Rattle.pl_world.specs.Trace.{Event, is_failed, last_commit, text}
+use Rattle.pl_port.specs.pl_engine.Engines.{world}
+use Rattle.pl_port.specs.pl_engine.Texts.{do_bodies}
+use Rattle.pl_port.specs.pl_engine.declared.stop.Stop.{Stop}
+use Rattle.pl_port.specs.pl_engine.declared.stop.Stop.TheVariants.{Disk, Say, Memory}
+use Rattle.pl_exec.proofs.of_pl_world.Lent.{last_commit-append, text-append}
+use Rattle.pl_exec.specs.pl_world.Covered.{AlongFrom}
+use Rattle.pl_exec.specs.pl_world.Trace.{Event, is_failed, last_commit, text}
 use Rattle.pl_port.proofs.Opens.{stores_open}
 use Rattle.pl_port.specs.PortLaws.{along_more, along_on, takes_none}
 use Rattle.pl_port.specs.Ports.{Fits}
@@ -36,12 +36,12 @@ use Rattle.pl_transactions.specs.Lines.{lines_by, lines_of}
 use Rattle.pl_transactions.specs.declared.transaction.Transaction.{Transaction}
 use Rattle.pl_tree.specs.declared.command.Command.{Command}
 use Rattle.pl_undo.specs.Database.{Database}
-use Rattle.pl_world.specs.Errors.{failure}
-use Rattle.pl_world.specs.Laws.{end_of, events}
-use Rattle.pl_world.specs.Scripts.{events_of, outward, piece_went, reply_event, session_of}
-use Rattle.pl_world.specs.Sessions.{Went, does_command, refused, top, went}
-use Rattle.pl_world.specs.World.{Raised}
-use Rattle.pl_world.specs.declared.session.Reply.{Reply}
+use Rattle.pl_exec.specs.pl_world.Errors.{failure}
+use Rattle.pl_exec.specs.pl_world.Laws.{end_of, events}
+use Rattle.pl_exec.specs.pl_world.Scripts.{events_of, outward, piece_went, reply_event, session_of}
+use Rattle.pl_exec.specs.pl_world.Sessions.{Went, does_command, refused, top, went}
+use Rattle.pl_exec.specs.pl_world.World.{Raised}
+use Rattle.pl_exec.specs.pl_world.declared.session.Reply.{Reply}
 
 -- an error that is passed on
 pub if_err : {T E : Type 0} (P : E → Type 0) (r : Result T E) (e : E) → IsErrAnd r (λ x. x ≡ e) → P e → IfErr r P

@@ -6,14 +6,14 @@ use Rattle.pl_disk.specs.Disk.{View, Looks}
 use Rattle.pl_frames.specs.Cause.{HasCause}
 use Rattle.pl_frames.specs.declared.fail.FrameFail.{FrameFail}
 use Rattle.pl_frames.specs.declared.fail.FrameFail.TheVariants as frames
-use Rattle.pl_journal.specs.Journal.{AllApply}
-use Rattle.pl_journal.specs.Operation.{apply_all, empty}
+use Rattle.pl_exec.specs.pl_journal.Journal.{AllApply}
+use Rattle.pl_exec.specs.pl_journal.Operation.{apply_all, empty}
 use Rattle.pl_keeper.specs.Batches.{Stored}
 use Rattle.pl_keeper.specs.Store.{IsReading, IsStore, DamagedAt, stored}
 use Rattle.pl_keeper.specs.declared.batch.Batch.{Batch}
 use Rattle.pl_keeper.specs.declared.head.Head.{Head}
 use Rattle.pl_undo.specs.Database.{Database}
-use Rattle.pl_world.specs.Opening.{opens}
+use Rattle.pl_exec.specs.pl_world.Opening.{opens}
 use Rattle.pl_session.specs.Halts.{start_fail_of}
 use Rattle.pl_session.specs.Starts.{HasStartCause}
 use Rattle.pl_session.specs.Steps.{Reaches}

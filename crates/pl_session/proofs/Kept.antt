@@ -9,15 +9,15 @@ use Rattle.pl_disk.specs.Lent.{after_writes, no_run, run_weaker, writes_weaker}
 use Rattle.pl_keeper.specs.Batches.{Damage}
 use Rattle.pl_keeper.specs.Checkpoint.{CheckpointedPayload, CheckpointingPayload, is_due, next_head}
 use Rattle.pl_keeper.specs.declared.head.Head.{Head}
-use Rattle.pl_journal.specs.Operation.{apply_payload, empty}
-use Rattle.pl_world.specs.Covered.{AlongFrom}
+use Rattle.pl_exec.specs.pl_journal.Operation.{apply_payload, empty}
+use Rattle.pl_exec.specs.pl_world.Covered.{AlongFrom}
 use Rattle.pl_undo.specs.Database.{Database}
-use Rattle.pl_world.specs.Opening.{opens}
-use Rattle.pl_world.specs.Trace.{Event, is_failed, last_commit, text}
-use Rattle.pl_engine.specs.Engines.{world}
-use Rattle.pl_engine.specs.declared.engine.Engine.{Engine}
-use Rattle.pl_engine.specs.declared.stop.Stop.{Stop}
-use Rattle.pl_engine.specs.declared.stop.Stop.TheVariants.{Disk, Say, Memory}
+use Rattle.pl_exec.specs.pl_world.Opening.{opens}
+use Rattle.pl_exec.specs.pl_world.Trace.{Event, is_failed, last_commit, text}
+use Rattle.pl_port.specs.pl_engine.Engines.{world}
+use Rattle.pl_port.specs.pl_engine.declared.engine.Engine.{Engine}
+use Rattle.pl_port.specs.pl_engine.declared.stop.Stop.{Stop}
+use Rattle.pl_port.specs.pl_engine.declared.stop.Stop.TheVariants.{Disk, Say, Memory}
 use Rattle.pl_port.proofs.Opens.{leads_on, opens_by, spelled_by, stores_open}
 use Rattle.pl_port.specs.PortLaws.{along_on}
 use Rattle.pl_port.specs.Stores.{Stores}
@@ -29,9 +29,9 @@ use Rattle.pl_session.specs.Traces.{after, events_in, told_before}
 use Rattle.pl_session.specs.declared.state.SessionState.{SessionState}
 use Rattle.pl_transactions.specs.State.{Stands, is_idle}
 use Rattle.pl_transactions.specs.declared.transaction.Transaction.{Transaction}
-use Rattle.pl_world.specs.Sessions.{Session}
-use Rattle.pl_world.specs.declared.session.Mode.{Mode}
-use Rattle.pl_world.specs.declared.session.Mode.TheVariants as mode
+use Rattle.pl_exec.specs.pl_world.Sessions.{Session}
+use Rattle.pl_exec.specs.pl_world.declared.session.Mode.{Mode}
+use Rattle.pl_exec.specs.pl_world.declared.session.Mode.TheVariants as mode
 use Rattle.pl_session.proofs.Begins.{rises_since}
 
 -- ---- the whole database is written anew

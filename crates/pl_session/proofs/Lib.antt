@@ -8,3 +8,4 @@ pub mod Kept
 pub mod Scripts
 pub mod Traces
 pub mod Progress
+pub use Rattle.pl_exec.proofs.of_pl_world

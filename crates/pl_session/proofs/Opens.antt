@@ -6,8 +6,8 @@ use Rattle.pl_disk.specs.Disk.{View, Continues, Keeps}
 use Rattle.pl_keeper.specs.Batches.{Damage, Log, Stored, batches}
 use Rattle.pl_keeper.specs.declared.head.Head.{Head}
 use Rattle.pl_undo.specs.Database.{Database}
-use Rattle.pl_world.specs.Opening.{apply_batches, opened_by, opens}
-use Rattle.pl_journal.specs.Operation.{apply_all, empty}
+use Rattle.pl_exec.specs.pl_world.Opening.{apply_batches, opened_by, opens}
+use Rattle.pl_exec.specs.pl_journal.Operation.{apply_all, empty}
 use Rattle.pl_port.proofs.Opens.{after, apply_batches-append, stores_open, stores_still}
 use Rattle.pl_port.specs.Ports.{Fits}
 use Rattle.pl_session.specs.State.{database_in, IsReady}

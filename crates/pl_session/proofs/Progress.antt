@@ -3,13 +3,13 @@ use Rattle.std.proofs.Common.{◌≡◌, ◌∙◌, ◌&&◌, ◌||◌, inl, inr
 use Rattle.std.proofs.lemmas.List.{append-nil}
 use Rattle.pl_disk.specs.Disk.{View}
 use Rattle.pl_disk.specs.Lent.{no_run}
-use Rattle.pl_engine.specs.declared.stop.Stop.{Stop}
-use Rattle.pl_engine.specs.declared.stop.Stop.TheVariants.{Disk, Say, Memory}
+use Rattle.pl_port.specs.pl_engine.declared.stop.Stop.{Stop}
+use Rattle.pl_port.specs.pl_engine.declared.stop.Stop.TheVariants.{Disk, Say, Memory}
 use Rattle.pl_keeper.specs.Batches.{Damage}
 use Rattle.pl_lex.specs.Characters.{Text}
-use Rattle.pl_world.proofs.Lent.{text-append, last_commit-append, is_failed-append, both_no, readings_some}
-use Rattle.pl_world.specs.Meaning.{Readings}
-use Rattle.pl_world.specs.Trace.{Event, is_failed, text, last_commit}
+use Rattle.pl_exec.proofs.of_pl_world.Lent.{text-append, last_commit-append, is_failed-append, both_no, readings_some}
+use Rattle.pl_exec.specs.pl_world.Meaning.{Readings}
+use Rattle.pl_exec.specs.pl_world.Trace.{Event, is_failed, text, last_commit}
 use Rattle.pl_port.specs.PortLaws.{along_on, along_more}
 use Rattle.pl_reading.specs.Computed.{script_readings}
 use Rattle.pl_reading.specs.declared.reading.Reading.{Reading}
@@ -24,8 +24,8 @@ use Rattle.pl_session.specs.Steps.{IsPart, KeepCause, PieceCause, StepCause}
 use Rattle.pl_session.specs.Traces.{AreFront, LeadsTo, after, behind, ended_behind, events_in, told_before, told_next, trace}
 use Rattle.pl_session.specs.declared.state.SessionState.{SessionState}
 use Rattle.pl_undo.specs.Database.{Database}
-use Rattle.pl_world.specs.Scripts.{script as script_events}
-use Rattle.pl_world.specs.Sessions.{Session}
+use Rattle.pl_exec.specs.pl_world.Scripts.{script as script_events}
+use Rattle.pl_exec.specs.pl_world.Sessions.{Session}
 
 -- Between two pieces: the first ones are done, from one session to another, and no error of theirs ends the script.
 pub record Progress (a now : View) (steps : ℕ) (stops : Bool) (script : Text) (at : ℕ) (s current : Session) : Type 0 where

@@ -7,7 +7,7 @@ use Rattle.pl_lex.specs.Computed.{lexemes}
 use Rattle.pl_lex.proofs.Lent.{lexemes_nil, all_stand, unique, commands_are_cut}
 use Rattle.pl_reading.specs.Reading.{IsPieceRead}
 use Rattle.pl_reading.specs.declared.reading.Reading.{Reading}
-use Rattle.pl_world.proofs.Lent.{outcome_only}
+use Rattle.pl_exec.proofs.of_pl_world.Lent.{outcome_only}
 use Rattle.pl_reading.specs.Computed.{piece_reading, pieces_in, readings_of, script_readings}
 use Rattle.pl_session.specs.Scripts.{Left, IsNextReading}
 use Rattle.pl_session.specs.declared.script.Next.{Next}

@@ -2,15 +2,15 @@
 use Rattle.std.proofs.Common.{◌≡◌, ◌∙◌, ◌++◌, ℕ, List, [], ◌∷◌, Result, Ok, Err, append_assoc, ap, refl, subst, sym}
 use Rattle.std.specs.Prelude.{IfErr, IfOk}
 use Rattle.pl_disk.specs.Disk.{View, Rises}
-use Rattle.pl_engine.proofs.Joins.{outward-append}
-use Rattle.pl_engine.specs.Answers.{Cut, Stopped, at, between}
-use Rattle.pl_engine.specs.Engines.{world}
-use Rattle.pl_engine.specs.declared.engine.Engine.{Engine}
-use Rattle.pl_engine.specs.declared.port.Port.{Ghosts}
-use Rattle.pl_engine.specs.declared.stop.Stop.{Stop}
-use Rattle.pl_engine.specs.declared.stop.Stop.TheVariants.{Disk, Say, Memory}
+use Rattle.pl_port.proofs.of_pl_engine.Joins.{outward-append}
+use Rattle.pl_port.specs.pl_engine.Answers.{Cut, Stopped, at, between}
+use Rattle.pl_port.specs.pl_engine.Engines.{world}
+use Rattle.pl_port.specs.pl_engine.declared.engine.Engine.{Engine}
+use Rattle.pl_port.specs.pl_engine.declared.port.Port.{Ghosts}
+use Rattle.pl_port.specs.pl_engine.declared.stop.Stop.{Stop}
+use Rattle.pl_port.specs.pl_engine.declared.stop.Stop.TheVariants.{Disk, Say, Memory}
 use Rattle.pl_keeper.specs.declared.head.Head.{Head}
-use Rattle.pl_world.specs.Trace.{Event, Said, Failed, Committed, last_commit}
+use Rattle.pl_exec.specs.pl_world.Trace.{Event, Said, Failed, Committed, last_commit}
 use Rattle.pl_port.proofs.Opens.{stores_open}
 use Rattle.pl_port.specs.PortLaws.{along_more, along_on}
 use Rattle.pl_port.specs.Ports.{Fits, Takes, Tries}
@@ -25,11 +25,11 @@ use Rattle.pl_transactions.specs.Answer.{Answer}
 use Rattle.pl_transactions.specs.Lines.{lines_of}
 use Rattle.pl_transactions.specs.declared.transaction.Transaction.{Transaction}
 use Rattle.pl_undo.specs.Database.{Database}
-use Rattle.pl_world.specs.Laws.{events}
-use Rattle.pl_world.specs.Scripts.{outward}
-use Rattle.pl_world.specs.Sessions.{Went}
-use Rattle.pl_world.specs.World.{Ran}
-use Rattle.pl_world.specs.World as world_events
+use Rattle.pl_exec.specs.pl_world.Laws.{events}
+use Rattle.pl_exec.specs.pl_world.Scripts.{outward}
+use Rattle.pl_exec.specs.pl_world.Sessions.{Went}
+use Rattle.pl_exec.specs.pl_world.World.{Ran}
+use Rattle.pl_exec.specs.pl_world.World as world_events
 
 -- a port over a store
 pub record OverStore {P : Type 0} (port : Ghosts P) (view : P → View) (keeper : P → Head) : Type 0 where

@@ -1,15 +1,15 @@
 -- The events of some pieces and more.
 use Rattle.std.proofs.Common.{◌≡◌, ◌∙◌, ◌&&◌, ◌||◌, ◌++◌, ℕ, Bool, true, false, cond, List, [], ◌∷◌, Option, Some, None, append_assoc, ap, refl, subst, sym}
 use Rattle.std.proofs.lemmas.List.{append-nil}
-use Rattle.pl_engine.specs.Texts.{do_bodies}
+use Rattle.pl_port.specs.pl_engine.Texts.{do_bodies}
 use Rattle.pl_lex.specs.Characters.{Text}
-use Rattle.pl_world.proofs.Lent.{is_failed-append, readings_only}
-use Rattle.pl_world.specs.Trace.{Event, is_failed}
+use Rattle.pl_exec.proofs.of_pl_world.Lent.{is_failed-append, readings_only}
+use Rattle.pl_exec.specs.pl_world.Trace.{Event, is_failed}
 use Rattle.pl_reading.specs.Computed.{script_readings}
 use Rattle.pl_reading.specs.declared.reading.Reading.{Reading}
 use Rattle.pl_session.specs.Traces.{IsTrace, after, behind, ended_behind, events_by, events_in, session_by, trace}
-use Rattle.pl_world.specs.Scripts.{goes_on, piece_went, script}
-use Rattle.pl_world.specs.Sessions.{Session, Went}
+use Rattle.pl_exec.specs.pl_world.Scripts.{goes_on, piece_went, script}
+use Rattle.pl_exec.specs.pl_world.Sessions.{Session, Went}
 
 -- ---- one piece, and those behind it
 

@@ -3,11 +3,11 @@ use Rattle.std.proofs.Common.{◌≡◌, ◌∙◌, ◌⊎◌, ◌++◌, inl, in
 use Rattle.std.specs.Prelude.{◌||◌}
 use Rattle.std.proofs.lemmas.List.{append-nil}
 use Rattle.pl_base.specs.declared.fail.Fail.{Fail}
-use Rattle.pl_engine.proofs.Joins.{outward-append}
-use Rattle.pl_engine.specs.Texts.{do_bodies}
-use Rattle.pl_world.proofs.Lent.{is_failed-append}
-use Rattle.pl_world.specs.Trace as trace
-use Rattle.pl_world.specs.Trace.{is_failed, last_commit, text}
+use Rattle.pl_port.proofs.of_pl_engine.Joins.{outward-append}
+use Rattle.pl_port.specs.pl_engine.Texts.{do_bodies}
+use Rattle.pl_exec.proofs.of_pl_world.Lent.{is_failed-append}
+use Rattle.pl_exec.specs.pl_world.Trace as trace
+use Rattle.pl_exec.specs.pl_world.Trace.{is_failed, last_commit, text}
 use Rattle.pl_transactions.specs.Tag.{Tag}
 use Rattle.pl_reading.specs.declared.reading.Reading.TheVariants.{Spelled}
 use Rattle.pl_session.specs.Steps.{IsPart, replies}
@@ -18,14 +18,14 @@ use Rattle.pl_transactions.specs.Lines.{lines_by, lines_of}
 use Rattle.pl_tree.specs.declared.command.Command.{Command}
 use Rattle.pl_tree.specs.declared.command.Command.TheVariants as command
 use Rattle.pl_undo.specs.Database.{Database}
-use Rattle.pl_world.specs.Laws.{end_of, events}
-use Rattle.pl_world.specs.Running.{Bodies}
-use Rattle.pl_world.specs.Scripts.{events_of, outward, reply_event}
-use Rattle.pl_world.specs.Sessions.{Save, Session, Went, alone, back_at, begins, commits, does_command, does_plain, ended_alone, ended_inside, goes_back, inside, place_of, plain, released_at, releases, rolls_back, saves, went}
-use Rattle.pl_world.specs.World.{Began, Committed, Event, Raised, Ran, Said, Stepped, made}
-use Rattle.pl_world.specs.declared.session.Mode.{Mode}
-use Rattle.pl_world.specs.declared.session.Mode.TheVariants as mode
-use Rattle.pl_world.specs.declared.session.Reply.{Reply}
+use Rattle.pl_exec.specs.pl_world.Laws.{end_of, events}
+use Rattle.pl_exec.specs.pl_world.Running.{Bodies}
+use Rattle.pl_exec.specs.pl_world.Scripts.{events_of, outward, reply_event}
+use Rattle.pl_exec.specs.pl_world.Sessions.{Save, Session, Went, alone, back_at, begins, commits, does_command, does_plain, ended_alone, ended_inside, goes_back, inside, place_of, plain, released_at, releases, rolls_back, saves, went}
+use Rattle.pl_exec.specs.pl_world.World.{Began, Committed, Event, Raised, Ran, Said, Stepped, made}
+use Rattle.pl_exec.specs.pl_world.declared.session.Mode.{Mode}
+use Rattle.pl_exec.specs.pl_world.declared.session.Mode.TheVariants as mode
+use Rattle.pl_exec.specs.pl_world.declared.session.Reply.{Reply}
 
 -- ---- what is told before the end
 

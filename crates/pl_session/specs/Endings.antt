@@ -2,12 +2,12 @@
 use Rattle.std.specs.Prelude.{◌≡◌, ◌++◌, ℕ, List, Bool, true, false, Some, Ok}
 use Rattle.pl_base.specs.Image.{Image}
 use Rattle.pl_disk.specs.Disk.{View, Rises}
-use Rattle.pl_engine.specs.declared.stop.Stop.{Stop}
-use Rattle.pl_engine.specs.declared.stop.Stop.TheVariants.{Disk, Say, Memory}
+use Rattle.pl_port.specs.pl_engine.declared.stop.Stop.{Stop}
+use Rattle.pl_port.specs.pl_engine.declared.stop.Stop.TheVariants.{Disk, Say, Memory}
 use Rattle.pl_lex.specs.Characters.{Text}
 use Rattle.pl_undo.specs.Database.{Database}
-use Rattle.pl_world.specs.Opening.{opens}
-use Rattle.pl_world.specs.Trace.{Event, text, last_commit}
+use Rattle.pl_exec.specs.pl_world.Opening.{opens}
+use Rattle.pl_exec.specs.pl_world.Trace.{Event, text, last_commit}
 pub use Rattle.pl_port.specs.Stores.{RunsAlong}
 use Rattle.pl_session.specs.State.{database_in, session_in, IsReady}
 use Rattle.pl_session.specs.Traces.{AreFront, IsTrace}
@@ -18,7 +18,7 @@ use Rattle.pl_session.specs.declared.halt.Halt.TheVariants.{Closed, Stopped}
 use Rattle.pl_session.specs.declared.halt.Outcome.{Outcome}
 use Rattle.pl_session.specs.declared.halt.Outcome.TheVariants.{Fine, Errored}
 use Rattle.pl_session.specs.declared.state.SessionState.{SessionState}
-use Rattle.pl_world.specs.Sessions.{Session}
+use Rattle.pl_exec.specs.pl_world.Sessions.{Session}
 
 -- this holds of the events of a script from a session on
 abbrev pub OfTrace : Text → (steps : ℕ) → (stops : Bool) → Session → (List Event → Type 0) → Type 0

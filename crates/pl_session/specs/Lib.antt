@@ -8,3 +8,4 @@ pub mod Steps
 pub mod Scripts
 pub mod Spare
 pub mod Lent
+pub use Rattle.pl_exec.specs.pl_world

@@ -5,8 +5,8 @@ use Rattle.pl_keeper.specs.Batches.{Stored}
 use Rattle.pl_keeper.specs.Checkpoint.{is_due}
 use Rattle.pl_keeper.specs.Store.{Has}
 use Rattle.pl_keeper.specs.declared.head.Head.{Head}
-use Rattle.pl_world.specs.declared.session.Mode.{Mode}
-use Rattle.pl_world.specs.declared.session.Mode.TheVariants as mode
+use Rattle.pl_exec.specs.pl_world.declared.session.Mode.{Mode}
+use Rattle.pl_exec.specs.pl_world.declared.session.Mode.TheVariants as mode
 
 -- the files are a store of which no checkpoint is due
 abbrev pub IsShort : Image → Type 0

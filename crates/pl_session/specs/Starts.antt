@@ -3,12 +3,12 @@ use Rattle.std.specs.Prelude.{◌≡◌, ◌⊎◌, ◌++◌, ◌∷◌, ℕ, Li
 use Rattle.pl_base.specs.Image.{Image}
 use Rattle.pl_disk.specs.Disk.{View, Rises}
 use Rattle.pl_keeper.specs.Batches.{batches}
-use Rattle.pl_world.specs.Opening.{opens}
+use Rattle.pl_exec.specs.pl_world.Opening.{opens}
 use Rattle.pl_session.specs.State.{database_in, session_in, IsReady}
 use Rattle.pl_session.specs.declared.halt.StartFail.{StartFail}
 use Rattle.pl_session.specs.declared.halt.StartFail.TheVariants.{Disk, Damaged, Memory}
 use Rattle.pl_session.specs.declared.state.SessionState.{SessionState}
-use Rattle.pl_world.specs.Sessions.{new_session}
+use Rattle.pl_exec.specs.pl_world.Sessions.{new_session}
 
 -- nothing more is printed, and an image is one from before or opens as what reads give
 pub record StartPair (v : View) (p : List ℕ) (c : Image) : Type 0 where

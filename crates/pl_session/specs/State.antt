@@ -2,13 +2,13 @@
 use Rattle.std.specs.Prelude.{◌≡◌, None, Ok}
 use Rattle.pl_base.specs.Image.{Image}
 use Rattle.pl_disk.specs.Disk.{View}
-use Rattle.pl_engine.specs.Engines.{world}
-use Rattle.pl_world.specs.Opening.{opens}
+use Rattle.pl_port.specs.pl_engine.Engines.{world}
+use Rattle.pl_exec.specs.pl_world.Opening.{opens}
 use Rattle.pl_port.specs.Stores.{Stores}
 use Rattle.pl_session.specs.declared.state.SessionState.{SessionState}
 use Rattle.pl_transactions.specs.State.{Stands, session_at}
 use Rattle.pl_undo.specs.Database.{Database}
-use Rattle.pl_world.specs.Sessions.{Session}
+use Rattle.pl_exec.specs.pl_world.Sessions.{Session}
 
 -- what a session stands for
 abbrev pub session_in : SessionState → Session

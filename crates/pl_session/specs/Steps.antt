@@ -2,15 +2,15 @@
 use Rattle.std.specs.Prelude.{◌≡◌, ◌⊎◌, ◌++◌, ℕ, List, [], ◌∷◌, Bool, Option, Some, None, Result, Ok, Err}
 use Rattle.pl_base.specs.Image.{Image}
 use Rattle.pl_disk.specs.Disk.{View, Rises}
-use Rattle.pl_engine.specs.Engines.{world}
-use Rattle.pl_engine.specs.declared.engine.Engine.{Engine}
-use Rattle.pl_engine.specs.declared.stop.Stop.{Stop}
-use Rattle.pl_engine.specs.declared.stop.Stop.TheVariants.{Disk, Say, Memory}
-use Rattle.pl_journal.specs.Operation.{empty}
+use Rattle.pl_port.specs.pl_engine.Engines.{world}
+use Rattle.pl_port.specs.pl_engine.declared.engine.Engine.{Engine}
+use Rattle.pl_port.specs.pl_engine.declared.stop.Stop.{Stop}
+use Rattle.pl_port.specs.pl_engine.declared.stop.Stop.TheVariants.{Disk, Say, Memory}
+use Rattle.pl_exec.specs.pl_journal.Operation.{empty}
 use Rattle.pl_keeper.specs.Batches.{Stored}
 use Rattle.pl_keeper.specs.declared.head.Head.{Head}
-use Rattle.pl_world.specs.Opening.{apply_batches, opens}
-use Rattle.pl_world.specs.Trace.{Event, is_failed, last_commit, text}
+use Rattle.pl_exec.specs.pl_world.Opening.{apply_batches, opens}
+use Rattle.pl_exec.specs.pl_world.Trace.{Event, is_failed, last_commit, text}
 use Rattle.pl_port.specs.Ports.{Takes}
 use Rattle.pl_reading.specs.declared.reading.Reading.{Reading}
 use Rattle.pl_session.specs.Endings.{Done, GoesOn}
@@ -20,10 +20,10 @@ use Rattle.pl_session.specs.declared.state.SessionState.{SessionState}
 use Rattle.pl_transactions.specs.State.{Stands, session_at}
 use Rattle.pl_transactions.specs.declared.transaction.Transaction.{Transaction}
 use Rattle.pl_undo.specs.Database.{Database}
-use Rattle.pl_world.specs.Scripts.{outward, reply_event}
-use Rattle.pl_world.specs.Sessions.{Went, went}
-use Rattle.pl_world.specs.World as world_events
-use Rattle.pl_world.specs.declared.session.Reply.{Reply}
+use Rattle.pl_exec.specs.pl_world.Scripts.{outward, reply_event}
+use Rattle.pl_exec.specs.pl_world.Sessions.{Went, went}
+use Rattle.pl_exec.specs.pl_world.World as world_events
+use Rattle.pl_exec.specs.pl_world.declared.session.Reply.{Reply}
 
 -- ---- why a part stopped
 

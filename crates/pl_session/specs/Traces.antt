@@ -1,15 +1,15 @@
 -- What a script does in a session.
 use Rattle.std.specs.Prelude.{◌≡◌, ◌⊎◌, ◌&&◌, ℕ, Bool, false, List, [], ◌∷◌, ◌++◌}
 use Rattle.std.specs.Prelude.{Option, Some, None, if◌then◌else◌}
-use Rattle.pl_engine.specs.Texts.{do_bodies}
+use Rattle.pl_port.specs.pl_engine.Texts.{do_bodies}
 use Rattle.pl_lex.specs.Characters.{Text}
-use Rattle.pl_world.specs.Meaning.{Readings}
-use Rattle.pl_world.specs.Trace.{Event, is_failed}
+use Rattle.pl_exec.specs.pl_world.Meaning.{Readings}
+use Rattle.pl_exec.specs.pl_world.Trace.{Event, is_failed}
 use Rattle.pl_reading.specs.declared.reading.Reading.{Reading}
 use Rattle.pl_reading.specs.declared.reading.Reading.TheVariants.{Nothing, Refused, Spelled}
 use Rattle.pl_transactions.specs.Before.{told}
-use Rattle.pl_world.specs.Scripts.{events_of, outward, piece_went, script, session_of}
-use Rattle.pl_world.specs.Sessions.{Session, Went}
+use Rattle.pl_exec.specs.pl_world.Scripts.{events_of, outward, piece_went, script, session_of}
+use Rattle.pl_exec.specs.pl_world.Sessions.{Session, Went}
 
 -- ---- pieces
 

@@ -2,11 +2,11 @@
 
 ghost use Rattle.std.specs.Prelude.{◌≡◌, ◌≤◌, ◌++◌, IfOk, IfErr, OnOk};
 ghost use Rattle.pl_disk.specs.Disk.{Keeps};
-ghost use Rattle.pl_engine.specs.Answers.{Answers};
-ghost use Rattle.pl_engine.specs.Engines.{kept, world};
-ghost use Rattle.pl_engine.specs.Runs.{run_as};
-ghost use Rattle.pl_engine.specs.Texts.{do_bodies};
-ghost use Rattle.pl_world.specs.Trace.{is_failed};
+ghost use Rattle.pl_port.specs.pl_engine.Answers.{Answers};
+ghost use Rattle.pl_port.specs.pl_engine.Engines.{kept, world};
+ghost use Rattle.pl_port.specs.pl_engine.Runs.{run_as};
+ghost use Rattle.pl_port.specs.pl_engine.Texts.{do_bodies};
+ghost use Rattle.pl_exec.specs.pl_world.Trace.{is_failed};
 ghost use Rattle.pl_port.specs.Ports.{Fits};
 ghost use Rattle.pl_port.specs.Stores.{AllOpen};
 ghost use Rattle.pl_reading.specs.Computed.{CommandMeansAlike};
@@ -17,19 +17,19 @@ ghost use Rattle.pl_transactions.specs.Ends.{as_ran};
 ghost use Rattle.pl_transactions.specs.Lines.{lines_of};
 ghost use Rattle.pl_transactions.specs.State.{Stands, session_at};
 ghost use Rattle.pl_undo.specs.Database.{Database};
-ghost use Rattle.pl_world.specs.Laws.{events};
-ghost use Rattle.pl_world.specs.Scripts.{outward};
-ghost use Rattle.pl_world.specs.Sessions.{does_command};
+ghost use Rattle.pl_exec.specs.pl_world.Laws.{events};
+ghost use Rattle.pl_exec.specs.pl_world.Scripts.{outward};
+ghost use Rattle.pl_exec.specs.pl_world.Sessions.{does_command};
 
 use crate::halt::Stop;
 use pl_disk::Host;
-use pl_engine::{Engine, Port, Runner, Task};
+use pl_exec::pl_world::Outcome;
 use pl_exec::{Bodies, run};
 use pl_keeper::Keeper;
 use pl_port::StorePort;
+use pl_port::pl_engine::{Engine, Port, Runner, Task};
 use pl_transactions::{Answer, Transaction, command};
 use pl_tree::Command;
-use pl_world::Outcome;
 
 // A task of a body, over any port. It stands here since a function of another crate isn't passed on
 // by its name.

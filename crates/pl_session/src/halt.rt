@@ -5,8 +5,8 @@ ghost use Rattle.pl_session.specs.Halts.{start_fail_of};
 ghost use Rattle.pl_session.specs.declared.halt.StartFail.TheVariants as start;
 
 use pl_base::{Area, Memory};
-pub use pl_engine::Stop;
 use pl_frames::FrameFail;
+pub use pl_port::pl_engine::Stop;
 
 /// Why a store wasn't opened.
 #[derive(Clone, Copy, Debug, PartialEq, Eq)]

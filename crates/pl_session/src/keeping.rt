@@ -8,8 +8,8 @@ ghost use Rattle.pl_session.specs.Steps.{KeepCause, OpensTo};
 
 use crate::halt::Stop;
 use pl_disk::Host;
+use pl_exec::pl_journal::Journal;
 use pl_frames::FrameFail;
-use pl_journal::Journal;
 use pl_keeper::Keeper;
 use std::alloc::Global;
 

@@ -12,7 +12,7 @@ ghost use Rattle.pl_session.specs.Steps.{Reaches};
 use crate::halt::StartFail;
 use pl_base::Memory;
 use pl_disk::Host;
-use pl_journal::Journal;
+use pl_exec::pl_journal::Journal;
 use pl_keeper::{Batch, Keeper, Reader, Step};
 use std::alloc::Global;
 

@@ -3,13 +3,13 @@
 
 ghost use Rattle.std.specs.Prelude.{true, false, ◌≡◌, ◌&&◌, Some, Err, IfOk, IfErr, OnOk, IsErrOf};
 ghost use Rattle.pl_disk.specs.Disk.{Runs, Settled, Untouched, Writes};
-ghost use Rattle.pl_engine.specs.declared.stop.Stop.{Stop};
+ghost use Rattle.pl_port.specs.pl_engine.declared.stop.Stop.{Stop};
 ghost use Rattle.pl_keeper.specs.Batches.{Damage, spare_area};
 ghost use Rattle.pl_keeper.specs.Checkpoint.{is_due};
 ghost use Rattle.pl_reading.specs.Computed.{CommandMeansAlike, MeansAlike};
 ghost use Rattle.pl_reading.specs.declared.reading.Reading.TheVariants as reading;
-ghost use Rattle.pl_world.specs.Opening.{opens};
-ghost use Rattle.pl_world.specs.Trace.{is_failed};
+ghost use Rattle.pl_exec.specs.pl_world.Opening.{opens};
+ghost use Rattle.pl_exec.specs.pl_world.Trace.{is_failed};
 ghost use Rattle.pl_session.specs.Endings.{OfTrace, RunsAlong, GoesOn, StopsBy, HasCause, outcome_of, ended_of};
 ghost use Rattle.pl_session.specs.Short.{StaysShort};
 ghost use Rattle.pl_session.specs.Spare.{KeepsArea};
@@ -18,7 +18,7 @@ ghost use Rattle.pl_session.specs.State.{database_in, session_in, IsReady};
 ghost use Rattle.pl_session.specs.Steps.{KeepCause, OpensTo, PieceEnd, StepEnd};
 ghost use Rattle.pl_session.specs.Traces.{LeadsTo, events_in};
 ghost use Rattle.pl_session.specs.declared.halt.Halt.TheVariants.{Closed};
-ghost use Rattle.pl_world.specs.declared.session.Mode.TheVariants as mode;
+ghost use Rattle.pl_exec.specs.pl_world.declared.session.Mode.TheVariants as mode;
 
 use crate::answering::{do_command, say_reply};
 use crate::halt::{Ended, Halt, Outcome, StartFail, Stop};
@@ -27,8 +27,8 @@ use crate::opening::fold;
 use crate::script::read_next;
 use pl_base::State;
 use pl_disk::Host;
-use pl_engine::Engine;
 use pl_keeper::Keeper;
+use pl_port::pl_engine::Engine;
 use pl_reading::Reading;
 use pl_transactions::{Transaction, refuse};
 use pl_tree::Command;

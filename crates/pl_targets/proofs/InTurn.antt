@@ -8,8 +8,8 @@ use Rattle.pl_scope.specs.declared.made.Made.{Made}
 use Rattle.pl_targets.specs.Values.{settings_on, with_setting}
 use Rattle.pl_targets.specs.declared.values.Settings.{Settings}
 use Rattle.pl_tree.specs.declared.command.Assignment.{Assignment}
-use Rattle.pl_typing.specs.declared.fail.ScopeFail.{ScopeFail}
-use Rattle.pl_typing.specs.declared.fail.ScopeFail.TheVariants.{State as Fails, Memory}
+use Rattle.pl_assigning.specs.pl_typing.declared.fail.ScopeFail.{ScopeFail}
+use Rattle.pl_assigning.specs.pl_typing.declared.fail.ScopeFail.TheVariants.{State as Fails, Memory}
 
 front : {A : Type 0} (xs : List A) (i : ℕ) (x : A) → i < length xs → x ≡ get_or xs i x → drop i xs ≡ x ∷ drop (i + 1) xs
 front xs i x lt is = rw (add-one, drop-cons xs i x lt, ← is) refl

@@ -3,9 +3,9 @@ use Rattle.std.proofs.Common.{ap}
 use Rattle.std.specs.Prelude.{Result, Ok, Err}
 use Rattle.pl_scope.specs.Answers.{Meets, settled}
 use Rattle.pl_scope.specs.declared.made.Made.{Made}
-use Rattle.pl_typing.specs.Resolved.{Resolved, Gives}
-use Rattle.pl_typing.specs.declared.fail.ScopeFail.{ScopeFail}
-use Rattle.pl_typing.specs.declared.fail.ScopeFail.TheVariants.{State as Fails, Memory}
+use Rattle.pl_assigning.specs.pl_typing.Resolved.{Resolved, Gives}
+use Rattle.pl_assigning.specs.pl_typing.declared.fail.ScopeFail.{ScopeFail}
+use Rattle.pl_assigning.specs.pl_typing.declared.fail.ScopeFail.TheVariants.{State as Fails, Memory}
 
 pub lifted : {A : Type 0} (r : Result A ScopeFail) (m : Resolved A) (made : Made) → Gives r m
     → Meets (settled m made) r made

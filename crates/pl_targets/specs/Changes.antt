@@ -27,7 +27,7 @@ use Rattle.pl_tree.specs.declared.command.Delete.{Delete}
 use Rattle.pl_tree.specs.declared.command.Insert.{Insert}
 use Rattle.pl_tree.specs.declared.command.Update.{Update}
 use Rattle.pl_tree.specs.declared.tree.Item.{Item}
-use Rattle.pl_typing.specs.Resolved.{Resolved}
+use Rattle.pl_assigning.specs.pl_typing.Resolved.{Resolved}
 
 -- ---- the table
 

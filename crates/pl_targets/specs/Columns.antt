@@ -11,7 +11,7 @@ use Rattle.pl_catalog.specs.declared.object.TableDef.{TableDef}
 use Rattle.pl_names.specs.Names.{Name, Around}
 use Rattle.pl_resolved.specs.declared.expression.RExpr.{RExpr}
 use Rattle.pl_resolved.specs.declared.expression.RExpr.TheVariants.{Constant}
-use Rattle.pl_typing.specs.Resolved.{Resolved, ◌>>=◌}
+use Rattle.pl_assigning.specs.pl_typing.Resolved.{Resolved, ◌>>=◌}
 
 abbrev pub columns_by : Option TableDef → Resolved (List Column)
 columns_by None = Err UNDEFINED_TABLE

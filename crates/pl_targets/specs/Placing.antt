@@ -21,9 +21,9 @@ use Rattle.pl_resolved.specs.declared.query.Head.{Head}
 use Rattle.pl_resolved.specs.declared.query.RQuery.{RQuery}
 use Rattle.pl_assigning.specs.Assigning.{assigned}
 use Rattle.pl_targets.specs.Columns.{default_of}
-use Rattle.pl_typing.specs.Resolved.{Resolved, ◌>>=◌}
-use Rattle.pl_typing.specs.Typing.{typed}
-use Rattle.pl_typing.specs.declared.typed.Typed.{Typed}
+use Rattle.pl_assigning.specs.pl_typing.Resolved.{Resolved, ◌>>=◌}
+use Rattle.pl_assigning.specs.pl_typing.Typing.{typed}
+use Rattle.pl_assigning.specs.pl_typing.declared.typed.Typed.{Typed}
 
 -- a value for which there is no column fails
 abbrev pub assigned_to : Option Column → Typed → Resolved RExpr

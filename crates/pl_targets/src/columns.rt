@@ -4,12 +4,12 @@ ghost use Rattle.std.specs.List.{list_any, range_with_len};
 ghost use Rattle.std.specs.Option.{option_copied};
 ghost use Rattle.std.specs.Prelude.{◌≡◌, [], nat_eq, slice_set, IfOk};
 ghost use Rattle.pl_targets.specs.Columns as spec;
-ghost use Rattle.pl_typing.specs.Resolved.{Gives};
+ghost use Rattle.pl_assigning.specs.pl_typing.Resolved.{Gives};
 
+use pl_assigning::pl_typing::ScopeFail;
 use pl_base::{Boxed, List, Name, State, Value};
 use pl_catalog::Column;
 use pl_resolved::RExpr;
-use pl_typing::ScopeFail;
 use std::alloc::{AllocError, Global};
 
 // ---- columns that are named

@@ -9,4 +9,6 @@ mod resolve;
 mod values;
 
 pub use change::{RChange, RRow, RRows, RWhat};
+pub use pl_names;
+pub use pl_scope;
 pub use resolve::{resolve_delete, resolve_insert, resolve_update};

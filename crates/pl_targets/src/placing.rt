@@ -5,14 +5,14 @@ ghost use Rattle.std.specs.Prelude.{◌≡◌, IfOk};
 ghost use Rattle.pl_resolved.specs.declared.expression.RExpr.{out-RExpr};
 ghost use Rattle.pl_targets.specs.Columns.{defaults};
 ghost use Rattle.pl_targets.specs.Placing as spec;
-ghost use Rattle.pl_typing.specs.Resolved.{Gives};
+ghost use Rattle.pl_assigning.specs.pl_typing.Resolved.{Gives};
 
 use crate::columns::{default_of, defaults, with_value};
 use pl_assigning::assigned;
+use pl_assigning::pl_typing::{ScopeFail, Typed, with_type};
 use pl_base::{Boxed, List, State, Ty, Value};
 use pl_catalog::Column;
 use pl_resolved::{Head, RExpr};
-use pl_typing::{ScopeFail, Typed, with_type};
 use std::alloc::{AllocError, Global};
 
 /// The value as one of this column. 42601 where there is no column.

@@ -5,17 +5,17 @@ ghost use Rattle.pl_names.specs.Names.{around};
 ghost use Rattle.pl_scope.specs.Answers.{got, Meets};
 ghost use Rattle.pl_scope.specs.Steps.{plain_in};
 ghost use Rattle.pl_targets.specs.Changes as spec;
-ghost use Rattle.pl_typing.specs.Resolved.{Gives};
+ghost use Rattle.pl_assigning.specs.pl_typing.Resolved.{Gives};
 
 use crate::columns::places_of;
 use crate::values::{end_of, rows_of, settings_of};
 use crate::{RChange, RWhat};
+use pl_assigning::pl_typing::ScopeFail;
 use pl_base::{List, Name, State};
 use pl_catalog::{Catalog, Column};
 use pl_names::{Items, Level, Names, Scope, Source, Sourced, table};
 use pl_scope::{Made, behind, entered, inside, items_on, maybe_condition};
 use pl_tree::{Delete, Insert, Item, Update};
-use pl_typing::ScopeFail;
 use std::alloc::Global;
 
 /// A change, without the queries that are made beside it.

@@ -9,18 +9,18 @@ ghost use Rattle.pl_scope.specs.Steps.{first_row};
 ghost use Rattle.pl_targets.specs.Columns.{defaults};
 ghost use Rattle.pl_targets.specs.Placing.{items_of, placed_on};
 ghost use Rattle.pl_targets.specs.Values as spec;
-ghost use Rattle.pl_typing.specs.Resolved.{Gives};
+ghost use Rattle.pl_assigning.specs.pl_typing.Resolved.{Gives};
 
 use crate::columns::{column_named, defaults, given, with_named, with_value};
 use crate::placing::{assigned_to, default_for, placed_row};
 use crate::{RRow, RRows};
+use pl_assigning::pl_typing::ScopeFail;
 use pl_base::{Boxed, List, Memory, Name, State};
 use pl_catalog::Column;
 use pl_names::{Names, Source};
 use pl_resolved::RExpr;
 use pl_scope::{Inner, Made, behind, entered, expr, inside, query};
 use pl_tree::{Assignment, NewRow, NewRows, NewValue, Query};
-use pl_typing::ScopeFail;
 use std::alloc::Global;
 
 /// The row behind those of these items, the first of which stands behind the row of the aggregates.

@@ -6,15 +6,15 @@ use Rattle.pl_base.specs.States.{NO_ACTIVE_SQL_TRANSACTION}
 use Rattle.pl_command.specs.Ends.{as_ran}
 use Rattle.pl_command.specs.Lines.{lines_of}
 use Rattle.pl_command.specs.declared.answers.Answer.{Answer}
-use Rattle.pl_engine.proofs.Joins.{Lawful, acted, becomes, ended, on, quietly, start, stopped, within}
-use Rattle.pl_engine.proofs.Tells.{untaken}
-use Rattle.pl_engine.specs.Answers.{Done, Partway, Stopped}
-use Rattle.pl_engine.specs.Database.{Database}
-use Rattle.pl_engine.specs.Engines.{kept, world}
-use Rattle.pl_engine.specs.declared.engine.Engine.{Engine}
-use Rattle.pl_engine.specs.declared.port.Port.{Ghosts}
-use Rattle.pl_engine.specs.declared.stop.Stop.{Stop}
-use Rattle.pl_engine.specs.declared.stop.Stop.TheVariants.{Memory}
+use Rattle.pl_command.proofs.of_pl_engine.Joins.{Lawful, acted, becomes, ended, on, quietly, start, stopped, within}
+use Rattle.pl_command.proofs.of_pl_engine.Tells.{untaken}
+use Rattle.pl_command.specs.pl_engine.Answers.{Done, Partway, Stopped}
+use Rattle.pl_command.specs.pl_engine.Database.{Database}
+use Rattle.pl_command.specs.pl_engine.Engines.{kept, world}
+use Rattle.pl_command.specs.pl_engine.declared.engine.Engine.{Engine}
+use Rattle.pl_command.specs.pl_engine.declared.port.Port.{Ghosts}
+use Rattle.pl_command.specs.pl_engine.declared.stop.Stop.{Stop}
+use Rattle.pl_command.specs.pl_engine.declared.stop.Stop.TheVariants.{Memory}
 use Rattle.pl_print.specs.declared.reply.Tag.{Tag}
 use Rattle.pl_print.specs.declared.reply.Tag.TheVariants as tags
 use Rattle.pl_transactions.proofs.Quiet.{from_done, same_events}
@@ -24,15 +24,15 @@ use Rattle.pl_transactions.specs.Goes.{Answered, Halted, Quietly, telling}
 use Rattle.pl_transactions.specs.State.{Stands, is_block, is_idle, paired, session_at}
 use Rattle.pl_transactions.specs.Warnings.{warning_line}
 use Rattle.pl_transactions.specs.declared.transaction.Transaction.{Transaction}
-use Rattle.pl_world.specs.Laws.{world_behind}
-use Rattle.pl_world.specs.Raising.{printed}
-use Rattle.pl_world.specs.Sessions.{Session, commits, over, rolls_back, session, tagged, warning}
-use Rattle.pl_world.specs.Transactions.{committed}
-use Rattle.pl_world.specs.World.{Committed, Event, Ran, Said, World, and_then, ends, made}
-use Rattle.pl_world.specs.declared.outcome.Outcome.{Outcome}
-use Rattle.pl_world.specs.declared.session.Mode.{Mode}
-use Rattle.pl_world.specs.declared.session.Mode.TheVariants as mode
-use Rattle.pl_world.specs.declared.session.Reply.{Reply}
+use Rattle.pl_command.specs.pl_world.Laws.{world_behind}
+use Rattle.pl_command.specs.pl_world.Raising.{printed}
+use Rattle.pl_command.specs.pl_world.Sessions.{Session, commits, over, rolls_back, session, tagged, warning}
+use Rattle.pl_command.specs.pl_world.Transactions.{committed}
+use Rattle.pl_command.specs.pl_world.World.{Committed, Event, Ran, Said, World, and_then, ends, made}
+use Rattle.pl_command.specs.pl_world.declared.outcome.Outcome.{Outcome}
+use Rattle.pl_command.specs.pl_world.declared.session.Mode.{Mode}
+use Rattle.pl_command.specs.pl_world.declared.session.Mode.TheVariants as mode
+use Rattle.pl_command.specs.pl_world.declared.session.Reply.{Reply}
 
 -- ---- behind an end
 

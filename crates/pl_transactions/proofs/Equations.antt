@@ -1,11 +1,11 @@
 -- What each command does, by its own equation.
 use Rattle.std.proofs.Common.{◌≡◌, ◌∙◌, ℕ, List, [], Result, ap, refl, sym}
 use Rattle.pl_command.specs.declared.answers.Answer.{Answer}
-use Rattle.pl_engine.proofs.Joins.{Lawful}
-use Rattle.pl_engine.specs.Engines.{world}
-use Rattle.pl_engine.specs.declared.engine.Engine.{Engine}
-use Rattle.pl_engine.specs.declared.port.Port.{Ghosts}
-use Rattle.pl_engine.specs.declared.stop.Stop.{Stop}
+use Rattle.pl_command.proofs.of_pl_engine.Joins.{Lawful}
+use Rattle.pl_command.specs.pl_engine.Engines.{world}
+use Rattle.pl_command.specs.pl_engine.declared.engine.Engine.{Engine}
+use Rattle.pl_command.specs.pl_engine.declared.port.Port.{Ghosts}
+use Rattle.pl_command.specs.pl_engine.declared.stop.Stop.{Stop}
 use Rattle.pl_print.specs.declared.reply.Tag.TheVariants as tag
 use Rattle.pl_transactions.proofs.Quiet.{goes_as, goes_quietly}
 use Rattle.pl_transactions.specs.Before.{told, told_of_begin, told_of_end, told_of_plain}
@@ -14,9 +14,9 @@ use Rattle.pl_transactions.specs.State.{session_at}
 use Rattle.pl_transactions.specs.declared.transaction.Transaction.{Transaction}
 use Rattle.pl_tree.specs.declared.command.Command.{Command}
 use Rattle.pl_tree.specs.declared.command.Command.TheVariants as command
-use Rattle.pl_world.specs.Running.{Bodies}
-use Rattle.pl_world.specs.Sessions.{Session, Went, begins, commits, does_command, does_plain, goes_back, releases, rolls_back, saves}
-use Rattle.pl_world.specs.World.{Event}
+use Rattle.pl_command.specs.pl_world.Running.{Bodies}
+use Rattle.pl_command.specs.pl_world.Sessions.{Session, Went, begins, commits, does_command, does_plain, goes_back, releases, rolls_back, saves}
+use Rattle.pl_command.specs.pl_world.World.{Event}
 
 abbrev Is : Bodies → ℕ → Command → Session → Went → List Event → Type 0
 Is b n c s w es = (does_command b n c s ≡ w) × (told b n c s ≡ es)

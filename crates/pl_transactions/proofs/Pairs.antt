@@ -1,11 +1,11 @@
 -- Savepoints, each with its name and the database of its mark.
 use Rattle.std.proofs.Common.{◌≡◌, ◌<◌, ◌≤◌, ◌+◌, ℕ, zero, suc, Bool, true, false, List, [], ◌∷◌, ◌++◌, Option, Some, None, ap, arith, get_or, length, refl, slice_get, take}
 use Rattle.std.specs.Prelude.{IfSome, bytes_eq}
-use Rattle.pl_engine.specs.Database.{Database}
+use Rattle.pl_command.specs.pl_engine.Database.{Database}
 use Rattle.pl_transactions.specs.Places.{newer, place_in}
 use Rattle.pl_transactions.specs.State.{paired}
-use Rattle.pl_world.specs.Sessions.{Save, later, place_of, put_back}
-use Rattle.pl_world.specs.World.{World}
+use Rattle.pl_command.specs.pl_world.Sessions.{Save, later, place_of, put_back}
+use Rattle.pl_command.specs.pl_world.World.{World}
 
 -- ---- as many names as marks
 

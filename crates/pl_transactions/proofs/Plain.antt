@@ -7,15 +7,15 @@ use Rattle.pl_command.specs.Ends.{IsIdle, as_ran}
 use Rattle.pl_command.specs.Lines.{lines_of}
 use Rattle.pl_command.specs.Replied.{replied}
 use Rattle.pl_command.specs.declared.answers.Answer.{Answer}
-use Rattle.pl_engine.proofs.Joins.{Lawful, becomes, before, on, start, stopped}
-use Rattle.pl_engine.specs.Answers.{Answers, Done, Stopped}
-use Rattle.pl_engine.specs.Database.{Database}
-use Rattle.pl_engine.specs.Engines.{Kept, kept, world}
-use Rattle.pl_engine.specs.Texts.{do_bodies}
-use Rattle.pl_engine.specs.declared.engine.Engine.{Engine}
-use Rattle.pl_engine.specs.declared.port.Port.{Ghosts}
-use Rattle.pl_engine.specs.declared.stop.Stop.{Stop}
-use Rattle.pl_engine.specs.declared.stop.Stop.TheVariants.{Memory}
+use Rattle.pl_command.proofs.of_pl_engine.Joins.{Lawful, becomes, before, on, start, stopped}
+use Rattle.pl_command.specs.pl_engine.Answers.{Answers, Done, Stopped}
+use Rattle.pl_command.specs.pl_engine.Database.{Database}
+use Rattle.pl_command.specs.pl_engine.Engines.{Kept, kept, world}
+use Rattle.pl_command.specs.pl_engine.Texts.{do_bodies}
+use Rattle.pl_command.specs.pl_engine.declared.engine.Engine.{Engine}
+use Rattle.pl_command.specs.pl_engine.declared.port.Port.{Ghosts}
+use Rattle.pl_command.specs.pl_engine.declared.stop.Stop.{Stop}
+use Rattle.pl_command.specs.pl_engine.declared.stop.Stop.TheVariants.{Memory}
 use Rattle.pl_transactions.proofs.Ends.{session_over, stands_over}
 use Rattle.pl_transactions.proofs.Quiet.{same_events, same_last, went_is}
 use Rattle.pl_transactions.proofs.Refused.{not_idle}
@@ -24,15 +24,15 @@ use Rattle.pl_transactions.specs.Goes.{Answered, Goes, Halted, telling}
 use Rattle.pl_transactions.specs.State.{Stands, is_block, mode_behind, paired, session_at}
 use Rattle.pl_transactions.specs.declared.transaction.Transaction.{Transaction}
 use Rattle.pl_tree.specs.declared.command.Command.{Command}
-use Rattle.pl_world.specs.Laws.{events, world_behind}
-use Rattle.pl_world.specs.Scripts.{outward, session_of}
-use Rattle.pl_world.specs.Sessions.{Save, Session, Went, alone, command_done, does_plain, ended_alone, ended_inside, inside, over, plain, session, went, with_steps}
-use Rattle.pl_world.specs.Statements.{runner_for}
-use Rattle.pl_world.specs.Trace.{last_commit}
-use Rattle.pl_world.specs.World.{Event, Ran, World, and_then, ends, made}
-use Rattle.pl_world.specs.declared.session.Mode.{Mode}
-use Rattle.pl_world.specs.declared.session.Mode.TheVariants as mode
-use Rattle.pl_world.specs.declared.session.Reply.{Reply}
+use Rattle.pl_command.specs.pl_world.Laws.{events, world_behind}
+use Rattle.pl_command.specs.pl_world.Scripts.{outward, session_of}
+use Rattle.pl_command.specs.pl_world.Sessions.{Save, Session, Went, alone, command_done, does_plain, ended_alone, ended_inside, inside, over, plain, session, went, with_steps}
+use Rattle.pl_command.specs.pl_world.Statements.{runner_for}
+use Rattle.pl_command.specs.pl_world.Trace.{last_commit}
+use Rattle.pl_command.specs.pl_world.World.{Event, Ran, World, and_then, ends, made}
+use Rattle.pl_command.specs.pl_world.declared.session.Mode.{Mode}
+use Rattle.pl_command.specs.pl_world.declared.session.Mode.TheVariants as mode
+use Rattle.pl_command.specs.pl_world.declared.session.Reply.{Reply}
 
 -- ---- as a transaction of its own
 

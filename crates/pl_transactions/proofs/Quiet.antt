@@ -3,22 +3,22 @@ use Rattle.std.proofs.Common.{◌≡◌, ◌∙◌, List, Result, Ok, Err, refl,
 use Rattle.pl_command.specs.Ends.{as_ran}
 use Rattle.pl_command.specs.Lines.{lines_of}
 use Rattle.pl_command.specs.declared.answers.Answer.{Answer}
-use Rattle.pl_engine.proofs.Joins.{Lawful, acted, before, start}
-use Rattle.pl_engine.specs.Answers.{Cut, Done, Stopped}
-use Rattle.pl_engine.specs.Database.{Database}
-use Rattle.pl_engine.specs.Engines.{world}
-use Rattle.pl_engine.specs.declared.engine.Engine.{Engine}
-use Rattle.pl_engine.specs.declared.port.Port.{Ghosts}
-use Rattle.pl_engine.specs.declared.stop.Stop.{Stop}
-use Rattle.pl_engine.specs.declared.stop.Stop.TheVariants.{Memory}
+use Rattle.pl_command.proofs.of_pl_engine.Joins.{Lawful, acted, before, start}
+use Rattle.pl_command.specs.pl_engine.Answers.{Cut, Done, Stopped}
+use Rattle.pl_command.specs.pl_engine.Database.{Database}
+use Rattle.pl_command.specs.pl_engine.Engines.{world}
+use Rattle.pl_command.specs.pl_engine.declared.engine.Engine.{Engine}
+use Rattle.pl_command.specs.pl_engine.declared.port.Port.{Ghosts}
+use Rattle.pl_command.specs.pl_engine.declared.stop.Stop.{Stop}
+use Rattle.pl_command.specs.pl_engine.declared.stop.Stop.TheVariants.{Memory}
 use Rattle.pl_transactions.specs.Goes.{Answered, Goes, GoesQuietly, Halted, telling}
 use Rattle.pl_transactions.specs.State.{Stands, session_at}
 use Rattle.pl_transactions.specs.declared.transaction.Transaction.{Transaction}
-use Rattle.pl_world.specs.Laws.{end_of, events}
-use Rattle.pl_world.specs.Scripts.{outward, session_of}
-use Rattle.pl_world.specs.Sessions.{Session, Went, went}
-use Rattle.pl_world.specs.World.{Event, Ran, World, made}
-use Rattle.pl_world.specs.declared.session.Reply.{Reply}
+use Rattle.pl_command.specs.pl_world.Laws.{end_of, events}
+use Rattle.pl_command.specs.pl_world.Scripts.{outward, session_of}
+use Rattle.pl_command.specs.pl_world.Sessions.{Session, Went, went}
+use Rattle.pl_command.specs.pl_world.World.{Event, Ran, World, made}
+use Rattle.pl_command.specs.pl_world.declared.session.Reply.{Reply}
 
 -- by its run and the session behind it
 pub went_is : (w : Went) (s : Session) (answer : Reply) (es : List Event) (now : World) → session_of w ≡ s → as_ran w ≡ made now answer es → w ≡ went s answer es

@@ -4,11 +4,11 @@ use Rattle.pl_base.specs.States.{ACTIVE_SQL_TRANSACTION}
 use Rattle.pl_base.specs.declared.state.State.{State}
 use Rattle.pl_command.specs.Lines.{lines_of}
 use Rattle.pl_command.specs.declared.answers.Answer.{Answer}
-use Rattle.pl_engine.specs.Answers.{Done, Stopped}
-use Rattle.pl_engine.specs.Engines.{Kept, kept, world}
-use Rattle.pl_engine.specs.declared.engine.Engine.{Engine}
-use Rattle.pl_engine.specs.declared.port.Port.{Ghosts}
-use Rattle.pl_engine.specs.declared.stop.Stop.{Stop}
+use Rattle.pl_command.specs.pl_engine.Answers.{Done, Stopped}
+use Rattle.pl_command.specs.pl_engine.Engines.{Kept, kept, world}
+use Rattle.pl_command.specs.pl_engine.declared.engine.Engine.{Engine}
+use Rattle.pl_command.specs.pl_engine.declared.port.Port.{Ghosts}
+use Rattle.pl_command.specs.pl_engine.declared.stop.Stop.{Stop}
 use Rattle.pl_print.specs.declared.reply.Tag.{Tag}
 use Rattle.pl_transactions.proofs.Quiet.{halted_within}
 use Rattle.pl_transactions.specs.Before.{told_of_begin}
@@ -16,14 +16,14 @@ use Rattle.pl_transactions.specs.Goes.{Answered, Halted, Quietly}
 use Rattle.pl_transactions.specs.State.{Stands, is_block, paired, session_at}
 use Rattle.pl_transactions.specs.Warnings.{warning_line}
 use Rattle.pl_transactions.specs.declared.transaction.Transaction.{Transaction}
-use Rattle.pl_world.specs.Errors.{failure}
-use Rattle.pl_world.specs.Laws.{events}
-use Rattle.pl_world.specs.Raising.{printed}
-use Rattle.pl_world.specs.Sessions.{after_error, begins, failed, refused, session, tagged, top, went}
-use Rattle.pl_world.specs.World.{Ran, World}
-use Rattle.pl_world.specs.declared.outcome.Outcome.{Outcome}
-use Rattle.pl_world.specs.declared.session.Mode.{Mode}
-use Rattle.pl_world.specs.declared.session.Mode.TheVariants as mode
+use Rattle.pl_command.specs.pl_world.Errors.{failure}
+use Rattle.pl_command.specs.pl_world.Laws.{events}
+use Rattle.pl_command.specs.pl_world.Raising.{printed}
+use Rattle.pl_command.specs.pl_world.Sessions.{after_error, begins, failed, refused, session, tagged, top, went}
+use Rattle.pl_command.specs.pl_world.World.{Ran, World}
+use Rattle.pl_command.specs.pl_world.declared.outcome.Outcome.{Outcome}
+use Rattle.pl_command.specs.pl_world.declared.session.Mode.{Mode}
+use Rattle.pl_command.specs.pl_world.declared.session.Mode.TheVariants as mode
 
 -- ---- modes
 

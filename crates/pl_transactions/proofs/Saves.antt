@@ -3,10 +3,10 @@ use Rattle.std.proofs.Common.{◌≡◌, ◌<◌, ◌≤◌, ◌+◌, ◌∙◌,
 use Rattle.std.proofs.lemmas.List.{length-take-le}
 use Rattle.pl_command.specs.Lines.{lines_of}
 use Rattle.pl_command.specs.declared.answers.Answer.{Answer}
-use Rattle.pl_engine.specs.Database.{Database}
-use Rattle.pl_engine.specs.Engines.{Kept, kept, world}
-use Rattle.pl_engine.specs.Handling.{returned_to, with_mark, with_marks}
-use Rattle.pl_engine.specs.declared.engine.Engine.{Engine}
+use Rattle.pl_command.specs.pl_engine.Database.{Database}
+use Rattle.pl_command.specs.pl_engine.Engines.{Kept, kept, world}
+use Rattle.pl_command.specs.pl_engine.Handling.{returned_to, with_mark, with_marks}
+use Rattle.pl_command.specs.pl_engine.declared.engine.Engine.{Engine}
 use Rattle.pl_print.specs.declared.reply.Tag.TheVariants as tag
 use Rattle.pl_transactions.proofs.Pairs.{paired_back, paired_length, paired_more, paired_place, paired_take}
 use Rattle.pl_transactions.proofs.Refused.{not_idle}
@@ -14,11 +14,11 @@ use Rattle.pl_transactions.specs.Goes.{Quietly}
 use Rattle.pl_transactions.specs.Places.{place_in}
 use Rattle.pl_transactions.specs.State.{Stands, is_block, paired, session_at}
 use Rattle.pl_transactions.specs.declared.transaction.Transaction.{Transaction}
-use Rattle.pl_world.specs.Blocks.{deeper}
-use Rattle.pl_world.specs.Sessions.{Save, back_at, goes_back, place_of, put_back, released_at, releases, saved, saves, session, tagged}
-use Rattle.pl_world.specs.World.{World}
-use Rattle.pl_world.specs.declared.session.Mode.{Mode}
-use Rattle.pl_world.specs.declared.session.Mode.TheVariants as mode
+use Rattle.pl_command.specs.pl_world.Blocks.{deeper}
+use Rattle.pl_command.specs.pl_world.Sessions.{Save, back_at, goes_back, place_of, put_back, released_at, releases, saved, saves, session, tagged}
+use Rattle.pl_command.specs.pl_world.World.{World}
+use Rattle.pl_command.specs.pl_world.declared.session.Mode.{Mode}
+use Rattle.pl_command.specs.pl_world.declared.session.Mode.TheVariants as mode
 
 -- the saves of a session
 abbrev saves_at : Transaction → Engine → List Save

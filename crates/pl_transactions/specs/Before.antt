@@ -3,12 +3,12 @@ use Rattle.std.specs.Prelude.{ℕ, List, []}
 use Rattle.pl_base.specs.States.{ACTIVE_SQL_TRANSACTION, NO_ACTIVE_SQL_TRANSACTION}
 use Rattle.pl_tree.specs.declared.command.Command.{Command}
 use Rattle.pl_tree.specs.declared.command.Command.TheVariants as command
-use Rattle.pl_world.specs.Laws.{events}
-use Rattle.pl_world.specs.Running.{Bodies}
-use Rattle.pl_world.specs.Sessions.{Session, plain, warning}
-use Rattle.pl_world.specs.World.{Event}
-use Rattle.pl_world.specs.declared.session.Mode.{Mode}
-use Rattle.pl_world.specs.declared.session.Mode.TheVariants as mode
+use Rattle.pl_command.specs.pl_world.Laws.{events}
+use Rattle.pl_command.specs.pl_world.Running.{Bodies}
+use Rattle.pl_command.specs.pl_world.Sessions.{Session, plain, warning}
+use Rattle.pl_command.specs.pl_world.World.{Event}
+use Rattle.pl_command.specs.pl_world.declared.session.Mode.{Mode}
+use Rattle.pl_command.specs.pl_world.declared.session.Mode.TheVariants as mode
 
 -- in a block BEGIN warns
 abbrev pub told_of_begin : Mode → List Event

@@ -3,18 +3,18 @@ use Rattle.std.specs.Prelude.{◌≡◌, List, Result, Ok, Err}
 use Rattle.pl_command.specs.Ends.{as_ran}
 use Rattle.pl_command.specs.Lines.{lines_of}
 use Rattle.pl_command.specs.declared.answers.Answer.{Answer}
-use Rattle.pl_engine.specs.Answers.{Stopped}
-use Rattle.pl_engine.specs.Engines.{Quiet, world}
-use Rattle.pl_engine.specs.declared.engine.Engine.{Engine}
-use Rattle.pl_engine.specs.declared.port.Port.{Ghosts}
-use Rattle.pl_engine.specs.declared.stop.Stop.{Stop}
-use Rattle.pl_engine.specs.declared.stop.Stop.TheVariants.{Memory}
+use Rattle.pl_command.specs.pl_engine.Answers.{Stopped}
+use Rattle.pl_command.specs.pl_engine.Engines.{Quiet, world}
+use Rattle.pl_command.specs.pl_engine.declared.engine.Engine.{Engine}
+use Rattle.pl_command.specs.pl_engine.declared.port.Port.{Ghosts}
+use Rattle.pl_command.specs.pl_engine.declared.stop.Stop.{Stop}
+use Rattle.pl_command.specs.pl_engine.declared.stop.Stop.TheVariants.{Memory}
 use Rattle.pl_transactions.specs.State.{Stands, session_at}
 use Rattle.pl_transactions.specs.declared.transaction.Transaction.{Transaction}
-use Rattle.pl_world.specs.Scripts.{outward, session_of}
-use Rattle.pl_world.specs.Sessions.{Went, went}
-use Rattle.pl_world.specs.Trace.{last_commit}
-use Rattle.pl_world.specs.World.{Event, Ran, World, made}
+use Rattle.pl_command.specs.pl_world.Scripts.{outward, session_of}
+use Rattle.pl_command.specs.pl_world.Sessions.{Went, went}
+use Rattle.pl_command.specs.pl_world.Trace.{last_commit}
+use Rattle.pl_command.specs.pl_world.World.{Event, Ran, World, made}
 
 -- ---- nothing is printed or committed
 

@@ -1,6 +1,6 @@
 -- The place of a savepoint by its name.
 use Rattle.std.specs.Prelude.{ℕ, Bool, if◌then◌else◌, List, [], ◌∷◌, Option, Some, None, bytes_eq}
-use Rattle.pl_world.specs.Sessions.{later}
+use Rattle.pl_command.specs.pl_world.Sessions.{later}
 
 -- that of the newest one of this name
 abbrev pub place_in : (name : List ℕ) → List (List ℕ) → Option ℕ

@@ -3,13 +3,13 @@
 use Rattle.std.specs.Prelude.{◌≡◌, ℕ, Bool, true, false, List, [], ◌∷◌, length}
 use Rattle.std.specs.Prelude.{Option, Some, None}
 use Rattle.pl_base.specs.declared.fail.Fail.{Fail}
-use Rattle.pl_engine.specs.Database.{Database}
-use Rattle.pl_engine.specs.Engines.{kept, world}
-use Rattle.pl_engine.specs.declared.engine.Engine.{Engine}
+use Rattle.pl_command.specs.pl_engine.Database.{Database}
+use Rattle.pl_command.specs.pl_engine.Engines.{kept, world}
+use Rattle.pl_command.specs.pl_engine.declared.engine.Engine.{Engine}
 use Rattle.pl_transactions.specs.declared.transaction.Transaction.{Transaction}
-use Rattle.pl_world.specs.Sessions.{Save, Session, after_error, session}
-use Rattle.pl_world.specs.declared.session.Mode.{Mode}
-use Rattle.pl_world.specs.declared.session.Mode.TheVariants as mode
+use Rattle.pl_command.specs.pl_world.Sessions.{Save, Session, after_error, session}
+use Rattle.pl_command.specs.pl_world.declared.session.Mode.{Mode}
+use Rattle.pl_command.specs.pl_world.declared.session.Mode.TheVariants as mode
 
 -- the savepoints of these names, each with the database of its mark
 abbrev pub paired : (names : List (List ℕ)) → (marks : List Database) → List Save

@@ -1,20 +1,20 @@
 //! How a transaction block begins: PostgreSQL manual, "BEGIN", "START TRANSACTION".
 
 ghost use Rattle.std.specs.Prelude.{◌≡◌};
-ghost use Rattle.pl_engine.specs.Engines.{world};
+ghost use Rattle.pl_command.specs.pl_engine.Engines.{world};
 ghost use Rattle.pl_transactions.specs.Before.{told_of_begin};
 ghost use Rattle.pl_transactions.specs.Goes.{Goes, GoesQuietly};
 ghost use Rattle.pl_transactions.specs.State.{Stands, session_at};
-ghost use Rattle.pl_world.specs.Sessions as spec;
-ghost use Rattle.pl_world.specs.declared.session.Mode.TheVariants as modes;
+ghost use Rattle.pl_command.specs.pl_world.Sessions as spec;
+ghost use Rattle.pl_command.specs.pl_world.declared.session.Mode.TheVariants as modes;
 
 use crate::replies::{refuse, tagged, warn};
 use crate::transaction::Transaction;
 use pl_base::State;
 use pl_command::Answer;
-use pl_engine::{Engine, Port, Stop};
+use pl_command::pl_engine::{Engine, Port, Stop};
+use pl_command::pl_world::Mode;
 use pl_print::Tag;
-use pl_world::Mode;
 
 // A block begins.
 fn open(transaction: &mut Transaction, engine: &mut Engine, tag: Tag) -> Result<Answer, Stop>

@@ -1,13 +1,13 @@
 //! Every command.
 
 ghost use Rattle.pl_command.specs.Computed.{CommandMeansAlike};
-ghost use Rattle.pl_engine.specs.Engines.{world};
-ghost use Rattle.pl_engine.specs.Runs.{Runs};
-ghost use Rattle.pl_engine.specs.Texts.{do_bodies};
+ghost use Rattle.pl_command.specs.pl_engine.Engines.{world};
+ghost use Rattle.pl_command.specs.pl_engine.Runs.{Runs};
+ghost use Rattle.pl_command.specs.pl_engine.Texts.{do_bodies};
 ghost use Rattle.pl_transactions.specs.Before.{told};
 ghost use Rattle.pl_transactions.specs.Goes.{Goes};
 ghost use Rattle.pl_transactions.specs.State.{Stands, session_at};
-ghost use Rattle.pl_world.specs.Sessions.{does_command};
+ghost use Rattle.pl_command.specs.pl_world.Sessions.{does_command};
 
 use crate::beginning::begin;
 use crate::doing::plain;
@@ -15,10 +15,10 @@ use crate::ending::{end, roll_back};
 use crate::savepoints::{go_back, release, save};
 use crate::transaction::Transaction;
 use pl_command::Answer;
-use pl_engine::{BodyRunner, Engine, Port, Runner, Stop, Task};
+use pl_command::pl_engine::{BodyRunner, Engine, Port, Runner, Stop, Task};
+use pl_command::pl_world::Outcome;
 use pl_print::Tag;
 use pl_tree::Command;
-use pl_world::Outcome;
 
 /// Does a command of a session, which may take as many steps as the runner has room for. What it
 /// prints before its reply, and what it commits, goes to the port; the reply is for the caller to

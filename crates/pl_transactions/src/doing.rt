@@ -2,22 +2,22 @@
 
 ghost use Rattle.std.specs.Prelude.{◌≡◌};
 ghost use Rattle.pl_command.specs.Computed.{CommandMeansAlike};
-ghost use Rattle.pl_engine.specs.Engines.{world};
-ghost use Rattle.pl_engine.specs.Runs.{Runs};
-ghost use Rattle.pl_engine.specs.Texts.{do_bodies};
+ghost use Rattle.pl_command.specs.pl_engine.Engines.{world};
+ghost use Rattle.pl_command.specs.pl_engine.Runs.{Runs};
+ghost use Rattle.pl_command.specs.pl_engine.Texts.{do_bodies};
 ghost use Rattle.pl_transactions.specs.Before.{told_of_plain};
 ghost use Rattle.pl_transactions.specs.Goes.{Goes};
 ghost use Rattle.pl_transactions.specs.State.{Stands, session_at};
-ghost use Rattle.pl_world.specs.Sessions as spec;
-ghost use Rattle.pl_world.specs.declared.session.Mode.TheVariants as modes;
+ghost use Rattle.pl_command.specs.pl_world.Sessions as spec;
+ghost use Rattle.pl_command.specs.pl_world.declared.session.Mode.TheVariants as modes;
 
 use crate::replies::refuse;
 use crate::transaction::Transaction;
 use pl_base::State;
+use pl_command::pl_engine::{BodyRunner, Engine, Port, Runner, Stop, Task};
+use pl_command::pl_world::{Mode, Outcome};
 use pl_command::{Answer, perform, reply_lines};
-use pl_engine::{BodyRunner, Engine, Port, Runner, Stop, Task};
 use pl_tree::Command;
-use pl_world::{Mode, Outcome};
 
 // Outside of a block a command is a transaction of its own.
 fn alone<P: Port, F, R: BodyRunner>(

@@ -1,21 +1,21 @@
 //! How a transaction block ends: PostgreSQL manual, "COMMIT", "ROLLBACK".
 
 ghost use Rattle.std.specs.Prelude.{◌≡◌, []};
-ghost use Rattle.pl_engine.specs.Engines.{kept, world};
+ghost use Rattle.pl_command.specs.pl_engine.Engines.{kept, world};
 ghost use Rattle.pl_transactions.specs.Before.{told_of_end};
 ghost use Rattle.pl_transactions.specs.Blocks.{ends_none, undoes};
 ghost use Rattle.pl_transactions.specs.Goes.{Goes, GoesQuietly};
 ghost use Rattle.pl_transactions.specs.State.{Stands, session_at};
-ghost use Rattle.pl_world.specs.Sessions as spec;
-ghost use Rattle.pl_world.specs.declared.session.Mode.TheVariants as modes;
+ghost use Rattle.pl_command.specs.pl_world.Sessions as spec;
+ghost use Rattle.pl_command.specs.pl_world.declared.session.Mode.TheVariants as modes;
 
 use crate::replies::{tagged, warn};
 use crate::transaction::Transaction;
 use pl_base::State;
 use pl_command::Answer;
-use pl_engine::{Engine, Mark, Port, Stop, commit};
+use pl_command::pl_engine::{Engine, Mark, Port, Stop, commit};
+use pl_command::pl_world::Mode;
 use pl_print::Tag;
-use pl_world::Mode;
 
 // Outside of a block there is nothing to end: it warns, and commits what is committed.
 fn end_none<P: Port>(

@@ -2,20 +2,20 @@
 
 ghost use Rattle.std.specs.Prelude.{◌≡◌, IfOk};
 ghost use Rattle.pl_command.specs.Lines.{lines_of};
-ghost use Rattle.pl_engine.specs.Answers.{Answers};
-ghost use Rattle.pl_engine.specs.Engines.{world};
+ghost use Rattle.pl_command.specs.pl_engine.Answers.{Answers};
+ghost use Rattle.pl_command.specs.pl_engine.Engines.{world};
 ghost use Rattle.pl_transactions.specs.Goes.{GoesQuietly};
 ghost use Rattle.pl_transactions.specs.State.{Stands, session_at};
 ghost use Rattle.pl_transactions.specs.Warnings.{warning_line};
-ghost use Rattle.pl_world.specs.Raising.{printed};
-ghost use Rattle.pl_world.specs.Sessions as spec;
+ghost use Rattle.pl_command.specs.pl_world.Raising.{printed};
+ghost use Rattle.pl_command.specs.pl_world.Sessions as spec;
 
 use crate::transaction::Transaction;
 use pl_base::{Bytes, Memory, State};
+use pl_command::pl_engine::{Engine, Port, Spot, Stop, message_text, say};
+use pl_command::pl_world::{Outcome, Reply};
 use pl_command::{Answer, reply_lines};
-use pl_engine::{Engine, Port, Spot, Stop, message_text, say};
 use pl_print::{Level, Tag, notice};
-use pl_world::{Outcome, Reply};
 use std::alloc::Global;
 
 /// It is done.

@@ -3,17 +3,17 @@
 ghost use Rattle.std.specs.Prelude.{◌≡◌, ◌<◌, length, Some, true};
 ghost use Rattle.pl_transactions.specs.Goes.{GoesQuietly};
 ghost use Rattle.pl_transactions.specs.State.{Stands, is_block, session_at};
-ghost use Rattle.pl_world.specs.Sessions as spec;
-ghost use Rattle.pl_world.specs.declared.session.Mode.TheVariants as modes;
+ghost use Rattle.pl_command.specs.pl_world.Sessions as spec;
+ghost use Rattle.pl_command.specs.pl_world.declared.session.Mode.TheVariants as modes;
 
 use crate::places::place_of;
 use crate::replies::{refuse, tagged};
 use crate::transaction::Transaction;
 use pl_base::{Name, State};
 use pl_command::Answer;
-use pl_engine::{Engine, Mark, Stop};
+use pl_command::pl_engine::{Engine, Mark, Stop};
+use pl_command::pl_world::Mode;
 use pl_print::Tag;
-use pl_world::Mode;
 
 // In a block a savepoint keeps the database now.
 fn keep(transaction: &mut Transaction, engine: &mut Engine, name: Name) -> Result<Answer, Stop>

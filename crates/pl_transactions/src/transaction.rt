@@ -2,11 +2,11 @@
 
 ghost use Rattle.std.specs.Prelude.{◌≡◌, []};
 ghost use Rattle.pl_transactions.specs.State as spec;
-ghost use Rattle.pl_world.specs.Sessions.{after_error};
-ghost use Rattle.pl_world.specs.declared.session.Mode.TheVariants as modes;
+ghost use Rattle.pl_command.specs.pl_world.Sessions.{after_error};
+ghost use Rattle.pl_command.specs.pl_world.declared.session.Mode.TheVariants as modes;
 
 use pl_base::Name;
-use pl_world::{Mode, Reply};
+use pl_command::pl_world::{Mode, Reply};
 use std::alloc::Global;
 
 /// What a session keeps between two commands beside its engine.

@@ -13,9 +13,9 @@ use Rattle.pl_bodies.specs.declared.statement.Caught.TheVariants as caught_by
 use Rattle.pl_bodies.specs.declared.statement.Handler.{Handler}
 use Rattle.pl_bodies.specs.declared.statement.Statement.{Statement}
 use Rattle.pl_world.specs.Blocks.{caught, deeper, handling, protected, sqlerrm_of, sqlstate_of}
-use Rattle.pl_catalog.specs.declared.object.Routine.{Routine}
+use Rattle.pl_meaning.specs.pl_catalog.declared.object.Routine.{Routine}
 use Rattle.pl_world.specs.Calls.{Callee, can_be_called, given, is_called_by, left, popped}
-use Rattle.pl_names.specs.Names.{Name}
+use Rattle.pl_meaning.specs.pl_names.Names.{Name}
 use Rattle.pl_world.specs.Conditions.{code_of, covers, is_engine, is_out_of_steps, is_state, matches}
 use Rattle.pl_world.specs.Conversions.{as_type, converted, settled}
 use Rattle.pl_world.specs.Errors.{Spot}

@@ -12,7 +12,7 @@ use Rattle.pl_bodies.specs.declared.simple.StackedTarget.{StackedTarget}
 use Rattle.pl_bodies.specs.declared.simple.Target.{Target}
 use Rattle.pl_calc.specs.Logic.{is_null}
 use Rattle.pl_print.specs.Messages.{message_text}
-use Rattle.pl_value.specs.Frames.{Row}
+use Rattle.pl_meaning.specs.pl_value.Frames.{Row}
 use Rattle.pl_world.specs.Conversions.{as_type}
 use Rattle.pl_world.specs.Errors.{Spot, raised, resolved}
 use Rattle.pl_world.specs.Expressions.{evaluated}

@@ -16,9 +16,9 @@ use Rattle.pl_bodies.specs.declared.declaration.VariableType.{VariableType}
 use Rattle.pl_bodies.specs.declared.statement.Block.{Block, out-Block}
 use Rattle.pl_bodies.specs.declared.statement.Handler.{Handler, out-Handler}
 use Rattle.pl_bodies.specs.declared.statement.Statement.{Statement}
-use Rattle.pl_names.specs.Names.{Name}
+use Rattle.pl_meaning.specs.pl_names.Names.{Name}
 use Rattle.pl_print.specs.Messages.{message_text}
-use Rattle.pl_scope.specs.declared.resolve.ResolvedExpr.{ResolvedExpr}
+use Rattle.pl_meaning.specs.pl_scope.declared.resolve.ResolvedExpr.{ResolvedExpr}
 use Rattle.pl_tree.specs.declared.tree.Expr.{Expr}
 use Rattle.pl_world.specs.Assigning.{kept_if, takes}
 use Rattle.pl_world.specs.Conditions.{matches_one}

@@ -10,16 +10,16 @@ use Rattle.pl_base.specs.declared.types.Ty.TheVariants as ty
 use Rattle.pl_base.specs.declared.value.Value.{Value}
 use Rattle.pl_base.specs.declared.value.Value.TheVariants.{Bool as Truth, Text}
 use Rattle.pl_bodies.specs.declared.statement.Body.{Body}
-use Rattle.pl_catalog.specs.Objects.{routine_named, routines_in}
-use Rattle.pl_catalog.specs.declared.object.Routine.{Routine}
-use Rattle.pl_names.specs.Names.{Name}
+use Rattle.pl_meaning.specs.pl_catalog.Objects.{routine_named, routines_in}
+use Rattle.pl_meaning.specs.pl_catalog.declared.object.Routine.{Routine}
+use Rattle.pl_meaning.specs.pl_names.Names.{Name}
 use Rattle.pl_tree.specs.declared.command.Param.{Param}
 use Rattle.pl_tree.specs.declared.command.ResultType.{ResultType}
 use Rattle.pl_tree.specs.declared.command.ResultType.TheVariants as results
 use Rattle.pl_tree.specs.declared.command.RoutineKind.{RoutineKind}
 use Rattle.pl_tree.specs.declared.command.RoutineKind.TheVariants.{Function, Procedure}
-use Rattle.pl_value.specs.Meaning.{Calls as CallsOf}
-use Rattle.pl_value.specs.Reading.{Reading, got, fails}
+use Rattle.pl_meaning.specs.pl_value.Meaning.{Calls as CallsOf}
+use Rattle.pl_meaning.specs.pl_value.Reading.{Reading, got, fails}
 use Rattle.pl_world.specs.Conversions.{as_type}
 use Rattle.pl_world.specs.Errors.{Spot, raised}
 use Rattle.pl_world.specs.Running.{Runner, body, spot_of}

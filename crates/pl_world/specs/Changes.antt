@@ -8,23 +8,23 @@ use Rattle.pl_base.specs.States.{TRIGGERED_DATA_CHANGE_VIOLATION}
 use Rattle.pl_meaning.specs.Changes.{assigned}
 use Rattle.pl_meaning.specs.Writing.{written}
 use Rattle.pl_keys.specs.Same.{same}
-use Rattle.pl_names.specs.Names.{Name}
-use Rattle.pl_product.specs.Product.{passes}
-use Rattle.pl_query.specs.Rows.{in_turn}
+use Rattle.pl_meaning.specs.pl_names.Names.{Name}
+use Rattle.pl_meaning.specs.pl_product.Product.{passes}
+use Rattle.pl_meaning.specs.pl_query.Rows.{in_turn}
 use Rattle.pl_resolved.specs.declared.expression.RExpr.{RExpr}
-use Rattle.pl_tables.specs.Named.{Named, on_table, row_named, rows_named}
-use Rattle.pl_tables.specs.Rows.{removed}
-use Rattle.pl_targets.specs.declared.change.RChange.{RChange}
-use Rattle.pl_targets.specs.declared.change.RRow.{RRow}
-use Rattle.pl_targets.specs.declared.change.RRows.{RRows}
-use Rattle.pl_targets.specs.declared.change.RRows.TheVariants.{Values, Query}
-use Rattle.pl_targets.specs.declared.change.RWhat.{RWhat}
-use Rattle.pl_targets.specs.declared.change.RWhat.TheVariants.{Insert, Update, Delete}
-use Rattle.pl_undo.specs.Database.{database}
-use Rattle.pl_value.specs.Frames.{Row}
-use Rattle.pl_value.specs.Frames as stands
-use Rattle.pl_value.specs.Meaning.{Calls as CallsOf, Part as Meaning, Sub, value, values}
-use Rattle.pl_value.specs.Reading.{Reading, got, fails, settled, then_read}
+use Rattle.pl_meaning.specs.pl_tables.Named.{Named, on_table, row_named, rows_named}
+use Rattle.pl_meaning.specs.pl_tables.Rows.{removed}
+use Rattle.pl_meaning.specs.pl_targets.declared.change.RChange.{RChange}
+use Rattle.pl_meaning.specs.pl_targets.declared.change.RRow.{RRow}
+use Rattle.pl_meaning.specs.pl_targets.declared.change.RRows.{RRows}
+use Rattle.pl_meaning.specs.pl_targets.declared.change.RRows.TheVariants.{Values, Query}
+use Rattle.pl_meaning.specs.pl_targets.declared.change.RWhat.{RWhat}
+use Rattle.pl_meaning.specs.pl_targets.declared.change.RWhat.TheVariants.{Insert, Update, Delete}
+use Rattle.pl_meaning.specs.pl_undo.Database.{database}
+use Rattle.pl_meaning.specs.pl_value.Frames.{Row}
+use Rattle.pl_meaning.specs.pl_value.Frames as stands
+use Rattle.pl_meaning.specs.pl_value.Meaning.{Calls as CallsOf, Part as Meaning, Sub, value, values}
+use Rattle.pl_meaning.specs.pl_value.Reading.{Reading, got, fails, settled, then_read}
 use Rattle.pl_world.specs.Calls.{Within, calls}
 use Rattle.pl_world.specs.Errors.{Spot}
 use Rattle.pl_world.specs.Expressions.{begun, inner}

@@ -12,17 +12,17 @@ use Rattle.pl_bodies.specs.declared.simple.IntoClause.{IntoClause}
 use Rattle.pl_bodies.specs.declared.simple.Target.{Target}
 use Rattle.pl_meaning.specs.Definitions.{Behind, redefined}
 use Rattle.pl_meaning.specs.Replies.{notice_line}
-use Rattle.pl_names.specs.Names.{Name}
+use Rattle.pl_meaning.specs.pl_names.Names.{Name}
 use Rattle.pl_resolved.specs.declared.query.Head.{Head}
 use Rattle.pl_resolved.specs.declared.query.RQuery.{RQuery}
-use Rattle.pl_targets.specs.declared.change.RChange.{RChange}
+use Rattle.pl_meaning.specs.pl_targets.declared.change.RChange.{RChange}
 use Rattle.pl_tree.specs.declared.command.Definition.{Definition}
 use Rattle.pl_tree.specs.declared.command.Definition.TheVariants as definition
 use Rattle.pl_tree.specs.declared.tree.Query.{Query}
-use Rattle.pl_typing.specs.Resolved.{Resolved}
-use Rattle.pl_undo.specs.Database.{Database}
-use Rattle.pl_value.specs.Frames.{Row}
-use Rattle.pl_value.specs.Reading.{Reading, got, fails}
+use Rattle.pl_meaning.specs.pl_typing.Resolved.{Resolved}
+use Rattle.pl_meaning.specs.pl_undo.Database.{Database}
+use Rattle.pl_meaning.specs.pl_value.Frames.{Row}
+use Rattle.pl_meaning.specs.pl_value.Reading.{Reading, got, fails}
 use Rattle.pl_world.specs.Assigning.{put_all}
 use Rattle.pl_world.specs.Calls.{Within}
 use Rattle.pl_world.specs.Changes.{changed}

@@ -14,10 +14,10 @@ use Rattle.pl_bodies.specs.declared.statement.Branch.{Branch, out-Branch}
 use Rattle.pl_bodies.specs.declared.statement.CaseArm.{CaseArm, out-CaseArm}
 use Rattle.pl_bodies.specs.declared.statement.Otherwise.{Otherwise, out-Otherwise}
 use Rattle.pl_bodies.specs.declared.statement.Statement.{Statement}
-use Rattle.pl_names.specs.Names.{Name}
+use Rattle.pl_meaning.specs.pl_names.Names.{Name}
 use Rattle.pl_tree.specs.declared.tree.Expr.{Expr}
-use Rattle.pl_typing.specs.Typing.{as_text_type}
-use Rattle.pl_value.specs.Combined.{is_true}
+use Rattle.pl_meaning.specs.pl_typing.Typing.{as_text_type}
+use Rattle.pl_meaning.specs.pl_value.Combined.{is_true}
 use Rattle.pl_world.specs.Conversions.{as_truth, as_type}
 use Rattle.pl_world.specs.Errors.{Spot, raised, resolved}
 use Rattle.pl_world.specs.Expressions.{evaluated, read, value_over}

@@ -8,7 +8,7 @@ use Rattle.pl_base.specs.declared.value.Value.TheVariants.{Text}
 use Rattle.pl_calc.specs.Answer.{Answer}
 use Rattle.pl_calc.specs.Casts.{cast_to, is_assignable}
 use Rattle.pl_print.specs.TextForm.{output}
-use Rattle.pl_value.specs.Combined.{is_true}
+use Rattle.pl_meaning.specs.pl_value.Combined.{is_true}
 use Rattle.pl_world.specs.Errors.{Spot, raised, as_run_state}
 use Rattle.pl_world.specs.World.{World, Ran}
 use Rattle.pl_world.specs.declared.outcome.Outcome.{Outcome}

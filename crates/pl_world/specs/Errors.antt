@@ -11,7 +11,7 @@ use Rattle.pl_base.specs.declared.fail.Message.TheVariants.{Standard}
 use Rattle.pl_base.specs.declared.fail.Origin.TheVariants.{Engine}
 use Rattle.pl_base.specs.declared.fail.Place.{Place}
 use Rattle.pl_base.specs.declared.state.State.{State}
-use Rattle.pl_typing.specs.Resolved.{Resolved}
+use Rattle.pl_meaning.specs.pl_typing.Resolved.{Resolved}
 use Rattle.pl_world.specs.World.{World, Raised, Ran, made}
 use Rattle.pl_world.specs.declared.outcome.Outcome.{Outcome}
 use Rattle.pl_world.specs.declared.outcome.Outcome.TheVariants as outcome

@@ -4,8 +4,8 @@ use Rattle.std.specs.Prelude.{Some, codes}
 use Rattle.pl_base.specs.States.{DIVISION_BY_ZERO}
 use Rattle.pl_base.specs.declared.fail.Fail.{Fail}
 use Rattle.pl_meaning.specs.Operation.{empty}
-use Rattle.pl_names.specs.Names.{Around}
-use Rattle.pl_scope.specs.Resolution.{standing}
+use Rattle.pl_meaning.specs.pl_names.Names.{Around}
+use Rattle.pl_meaning.specs.pl_scope.Resolution.{standing}
 use Rattle.pl_world.specs.Blocks.{handling}
 use Rattle.pl_world.specs.Errors.{failure}
 use Rattle.pl_world.specs.Sessions.{new_world, top}

@@ -7,12 +7,12 @@ use Rattle.pl_base.specs.declared.state.State.{State}
 use Rattle.pl_base.specs.declared.value.Value.{Value}
 use Rattle.pl_meaning.specs.Rows.{tables_of}
 use Rattle.pl_meaning.specs.Selection.{last_of}
-use Rattle.pl_query.specs.Query.{rows}
+use Rattle.pl_meaning.specs.pl_query.Query.{rows}
 use Rattle.pl_resolved.specs.declared.query.RQuery.{RQuery}
-use Rattle.pl_scope.specs.declared.resolve.ResolvedExpr.{ResolvedExpr}
-use Rattle.pl_value.specs.Frames.{Row}
-use Rattle.pl_value.specs.Meaning.{Sub, value}
-use Rattle.pl_value.specs.Reading.{Reading, got, fails}
+use Rattle.pl_meaning.specs.pl_scope.declared.resolve.ResolvedExpr.{ResolvedExpr}
+use Rattle.pl_meaning.specs.pl_value.Frames.{Row}
+use Rattle.pl_meaning.specs.pl_value.Meaning.{Sub, value}
+use Rattle.pl_meaning.specs.pl_value.Reading.{Reading, got, fails}
 use Rattle.pl_world.specs.Calls.{Within, within, calls}
 use Rattle.pl_world.specs.Errors.{Spot, failure, raises, as_run_state}
 use Rattle.pl_world.specs.Running.{Runner}

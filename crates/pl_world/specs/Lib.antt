@@ -28,3 +28,10 @@ pub use Rattle.pl_meaning.specs.Opening
 pub use Rattle.pl_meaning.specs.Replies
 pub use Rattle.pl_meaning.specs.Selection
 pub use Rattle.pl_meaning.specs.Trace
+pub use Rattle.pl_meaning.specs.pl_change
+pub use Rattle.pl_meaning.specs.pl_inside
+pub use Rattle.pl_meaning.specs.pl_journal
+pub use Rattle.pl_meaning.specs as pl_meaning
+pub use Rattle.pl_meaning.specs.pl_names
+pub use Rattle.pl_meaning.specs.pl_reading
+pub use Rattle.pl_meaning.specs.pl_scope

@@ -26,7 +26,7 @@ use Rattle.pl_print.specs.Messages.{notice_bytes}
 use Rattle.pl_print.specs.TextForm.{output}
 use Rattle.pl_print.specs.declared.reply.Level.TheVariants as print
 use Rattle.pl_tree.specs.declared.tree.Expr.{Expr}
-use Rattle.pl_typing.specs.Resolved.{Resolved}
+use Rattle.pl_meaning.specs.pl_typing.Resolved.{Resolved}
 use Rattle.pl_world.specs.Conditions.{code_of, code_or_name}
 use Rattle.pl_world.specs.Conversions.{as_truth, settled}
 use Rattle.pl_world.specs.Errors.{Spot, place, raised, raises, resolved}

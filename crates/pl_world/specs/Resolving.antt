@@ -12,33 +12,33 @@ use Rattle.pl_bodies.specs.declared.declaration.VariableType.TheVariants as type
 use Rattle.pl_bodies.specs.declared.simple.Change.{Change}
 use Rattle.pl_bodies.specs.declared.simple.Change.TheVariants as change
 use Rattle.pl_bodies.specs.declared.simple.Target.{Target}
-use Rattle.pl_catalog.specs.Objects.{routine_named, routines_in}
-use Rattle.pl_catalog.specs.declared.object.Object.{Object}
-use Rattle.pl_catalog.specs.declared.object.Routine.{Routine}
-use Rattle.pl_names.specs.Names.{Around, Name, name_means, qualified_means}
-use Rattle.pl_names.specs.Routines.{types_of}
-use Rattle.pl_names.specs.declared.found.Meaning.{Meaning}
+use Rattle.pl_meaning.specs.pl_catalog.Objects.{routine_named, routines_in}
+use Rattle.pl_meaning.specs.pl_catalog.declared.object.Object.{Object}
+use Rattle.pl_meaning.specs.pl_catalog.declared.object.Routine.{Routine}
+use Rattle.pl_meaning.specs.pl_names.Names.{Around, Name, name_means, qualified_means}
+use Rattle.pl_meaning.specs.pl_names.Routines.{types_of}
+use Rattle.pl_meaning.specs.pl_names.declared.found.Meaning.{Meaning}
 use Rattle.pl_resolved.specs.declared.expression.RExpr.{RExpr}
 use Rattle.pl_resolved.specs.declared.expression.RExpr.TheVariants.{Place}
 use Rattle.pl_resolved.specs.declared.query.RQuery.{RQuery}
-use Rattle.pl_scope.specs.Answers.{Answer, got, fails, gives}
-use Rattle.pl_scope.specs.Expressions.{arguments_on, in_list_of}
-use Rattle.pl_scope.specs.Parts.{Part}
-use Rattle.pl_scope.specs.Resolution.{argument_part, as_expr, nothing_made, part}
-use Rattle.pl_scope.specs.Resolution.{resolved_expr, resolved_query, standing}
-use Rattle.pl_scope.specs.declared.resolve.ResolvedExpr.{ResolvedExpr}
-use Rattle.pl_scope.specs.declared.written.Written.TheVariants.{Other}
-use Rattle.pl_targets.specs.Changes.{resolved_delete, resolved_insert, resolved_update}
-use Rattle.pl_targets.specs.declared.change.RChange.{RChange}
+use Rattle.pl_meaning.specs.pl_scope.Answers.{Answer, got, fails, gives}
+use Rattle.pl_meaning.specs.pl_scope.Expressions.{arguments_on, in_list_of}
+use Rattle.pl_meaning.specs.pl_scope.Parts.{Part}
+use Rattle.pl_meaning.specs.pl_scope.Resolution.{argument_part, as_expr, nothing_made, part}
+use Rattle.pl_meaning.specs.pl_scope.Resolution.{resolved_expr, resolved_query, standing}
+use Rattle.pl_meaning.specs.pl_scope.declared.resolve.ResolvedExpr.{ResolvedExpr}
+use Rattle.pl_meaning.specs.pl_scope.declared.written.Written.TheVariants.{Other}
+use Rattle.pl_meaning.specs.pl_targets.Changes.{resolved_delete, resolved_insert, resolved_update}
+use Rattle.pl_meaning.specs.pl_targets.declared.change.RChange.{RChange}
 use Rattle.pl_tree.specs.declared.command.RoutineKind.{RoutineKind}
 use Rattle.pl_tree.specs.declared.command.RoutineKind.TheVariants.{Function, Procedure}
 use Rattle.pl_tree.specs.declared.tree.Argument.{Argument}
 use Rattle.pl_tree.specs.declared.tree.Expr.{Expr}
 use Rattle.pl_tree.specs.declared.tree.Query.{Query}
-use Rattle.pl_typing.specs.Calls.{fitted, no_arguments}
-use Rattle.pl_typing.specs.Resolved.{Resolved, ◌>>=◌}
-use Rattle.pl_typing.specs.Typing.{typed}
-use Rattle.pl_typing.specs.declared.calls.Arguments.{Arguments}
+use Rattle.pl_meaning.specs.pl_typing.Calls.{fitted, no_arguments}
+use Rattle.pl_meaning.specs.pl_typing.Resolved.{Resolved, ◌>>=◌}
+use Rattle.pl_meaning.specs.pl_typing.Typing.{typed}
+use Rattle.pl_meaning.specs.pl_typing.declared.calls.Arguments.{Arguments}
 use Rattle.pl_world.specs.Variables.{variables_of}
 use Rattle.pl_world.specs.World.{Static}
 

@@ -4,7 +4,7 @@ use Rattle.std.specs.Prelude.{ℕ, zero, suc, List, [], ◌∷◌}
 use Rattle.pl_base.specs.States.{QUERY_CANCELED}
 use Rattle.pl_bodies.specs.declared.statement.Body.{Body}
 use Rattle.pl_bodies.specs.declared.statement.Statement.{Statement, out-Statement}
-use Rattle.pl_typing.specs.Resolved.{Resolved}
+use Rattle.pl_meaning.specs.pl_typing.Resolved.{Resolved}
 use Rattle.pl_world.specs.Errors.{Spot, place, raised}
 use Rattle.pl_world.specs.World.{World, Stepped, Ran, behind, and_then, ends}
 use Rattle.pl_world.specs.declared.outcome.Outcome.{Outcome}

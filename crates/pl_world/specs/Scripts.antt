@@ -8,8 +8,8 @@ use Rattle.pl_print.specs.Messages.{fail_bytes}
 use Rattle.pl_print.specs.Tags.{tag_bytes}
 use Rattle.pl_print.specs.declared.reply.Grid.{Grid}
 use Rattle.pl_print.specs.declared.reply.Tag.{Tag}
-use Rattle.pl_reading.specs.declared.reading.Reading.{Reading}
-use Rattle.pl_reading.specs.declared.reading.Reading.TheVariants.{Nothing, Refused, Spelled}
+use Rattle.pl_meaning.specs.pl_reading.declared.reading.Reading.{Reading}
+use Rattle.pl_meaning.specs.pl_reading.declared.reading.Reading.TheVariants.{Nothing, Refused, Spelled}
 use Rattle.pl_world.specs.Running.{Bodies}
 use Rattle.pl_world.specs.Sessions.{Session, Went, does_command, refused, went}
 use Rattle.pl_world.specs.World.{Began, Committed, Event, Raised, Said, Stepped}

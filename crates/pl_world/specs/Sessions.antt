@@ -13,21 +13,21 @@ use Rattle.pl_bodies.specs.declared.simple.Change.TheVariants as change
 use Rattle.pl_meaning.specs.Changing as changing
 use Rattle.pl_meaning.specs.Meaning as meaning
 use Rattle.pl_meaning.specs.Selection.{grid_of, has_long, heads_of}
-use Rattle.pl_names.specs.Names.{Name}
+use Rattle.pl_meaning.specs.pl_names.Names.{Name}
 use Rattle.pl_print.specs.Messages.{condition_name, notice_bytes}
 use Rattle.pl_print.specs.declared.reply.Grid.{Grid}
 use Rattle.pl_print.specs.declared.reply.Level.TheVariants.{Warning}
 use Rattle.pl_print.specs.declared.reply.Tag.{Tag}
 use Rattle.pl_print.specs.declared.reply.Tag.TheVariants as tag
-use Rattle.pl_reading.specs.Defining.{stored_by}
+use Rattle.pl_meaning.specs.pl_reading.Defining.{stored_by}
 use Rattle.pl_resolved.specs.declared.query.Head.{Head}
-use Rattle.pl_targets.specs.declared.change.RChange.{RChange}
+use Rattle.pl_meaning.specs.pl_targets.declared.change.RChange.{RChange}
 use Rattle.pl_tree.specs.declared.command.Command.{Command}
 use Rattle.pl_tree.specs.declared.command.Command.TheVariants as command
 use Rattle.pl_tree.specs.declared.tree.Argument.{Argument}
 use Rattle.pl_tree.specs.declared.tree.Query.{Query}
-use Rattle.pl_undo.specs.Database.{Database}
-use Rattle.pl_value.specs.Frames.{Row}
+use Rattle.pl_meaning.specs.pl_undo.Database.{Database}
+use Rattle.pl_meaning.specs.pl_value.Frames.{Row}
 use Rattle.pl_world.specs.Changes.{changed}
 use Rattle.pl_world.specs.Commands.{defines, finished}
 use Rattle.pl_world.specs.Errors.{Spot, failure, raises, resolves}

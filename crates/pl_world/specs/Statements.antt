@@ -20,8 +20,8 @@ use Rattle.pl_bodies.specs.declared.statement.Statement.{Statement, out-Statemen
 use Rattle.pl_bodies.specs.declared.statement.StatementKind.{StatementKind, out-StatementKind}
 use Rattle.pl_bodies.specs.declared.statement.StatementKind.TheOpen.{StatementKind-F}
 use Rattle.pl_bodies.specs.declared.statement.StatementKind.TheOpen as kind
-use Rattle.pl_names.specs.Names.{Name}
-use Rattle.pl_reading.specs.Computed.{definition_in}
+use Rattle.pl_meaning.specs.pl_names.Names.{Name}
+use Rattle.pl_meaning.specs.pl_reading.Computed.{definition_in}
 use Rattle.pl_tree.specs.declared.command.Command.{Command}
 use Rattle.pl_tree.specs.declared.command.Command.TheVariants as command
 use Rattle.pl_tree.specs.declared.tree.Query.{Query}

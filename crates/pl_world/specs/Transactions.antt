@@ -11,11 +11,11 @@ use Rattle.pl_base.specs.declared.fail.Origin.TheVariants.{Engine}
 use Rattle.pl_base.specs.declared.state.State.{State}
 use Rattle.pl_base.specs.declared.value.Value.{Value}
 use Rattle.pl_bodies.specs.declared.statement.Body.{Body}
-use Rattle.pl_names.specs.Names.{Name}
+use Rattle.pl_meaning.specs.pl_names.Names.{Name}
 use Rattle.pl_resolved.specs.declared.expression.RExpr.{RExpr}
-use Rattle.pl_typing.specs.Resolved.{Resolved}
-use Rattle.pl_value.specs.Meaning.{value, values}
-use Rattle.pl_value.specs.Reading.{Reading}
+use Rattle.pl_meaning.specs.pl_typing.Resolved.{Resolved}
+use Rattle.pl_meaning.specs.pl_value.Meaning.{value, values}
+use Rattle.pl_meaning.specs.pl_value.Reading.{Reading}
 use Rattle.pl_world.specs.Calls.{Within, called, called_by_name, calls, nameless}
 use Rattle.pl_world.specs.Errors.{Spot, raised, raises}
 use Rattle.pl_world.specs.Expressions.{begun, inner, read}

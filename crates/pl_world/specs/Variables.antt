@@ -9,12 +9,12 @@ use Rattle.pl_base.specs.declared.types.Ty.{Ty}
 use Rattle.pl_base.specs.declared.types.Ty.TheVariants.{Bool as Boolean}
 use Rattle.pl_base.specs.declared.value.Value.{Value}
 use Rattle.pl_base.specs.declared.value.Value.TheVariants.{Bool as Truth}
-use Rattle.pl_names.specs.Names.{Name}
-use Rattle.pl_names.specs.declared.scope.Seen.{Seen}
-use Rattle.pl_names.specs.declared.scope.Shape.TheVariants.{Plain}
-use Rattle.pl_names.specs.declared.scope.Visible.{Visible}
+use Rattle.pl_meaning.specs.pl_names.Names.{Name}
+use Rattle.pl_meaning.specs.pl_names.declared.scope.Seen.{Seen}
+use Rattle.pl_meaning.specs.pl_names.declared.scope.Shape.TheVariants.{Plain}
+use Rattle.pl_meaning.specs.pl_names.declared.scope.Visible.{Visible}
 use Rattle.pl_tree.specs.declared.command.Param.{Param}
-use Rattle.pl_value.specs.Frames.{Row}
+use Rattle.pl_meaning.specs.pl_value.Frames.{Row}
 use Rattle.pl_world.specs.World.{Static, Frame, World}
 
 -- ---- what names mean

@@ -3,8 +3,8 @@
 use Rattle.std.specs.Prelude.{if◌then◌else◌, Ok, Err}
 use Rattle.pl_base.specs.States.{FEATURE_NOT_SUPPORTED}
 use Rattle.pl_bodies.specs.declared.statement.Body.{Body}
-use Rattle.pl_typing.specs.Resolved.{Resolved}
-use Rattle.pl_waiting.specs.Waiting.{body_waits}
+use Rattle.pl_meaning.specs.pl_typing.Resolved.{Resolved}
+use Rattle.pl_meaning.specs.pl_waiting.Waiting.{body_waits}
 
 -- a body that can run
 abbrev pub unless_waiting : Body → Resolved Body

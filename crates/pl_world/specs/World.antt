@@ -5,9 +5,9 @@ use Rattle.pl_base.specs.declared.fail.Fail.{Fail}
 use Rattle.pl_base.specs.declared.fail.Place.{Place}
 use Rattle.pl_base.specs.declared.types.Ty.{Ty}
 use Rattle.pl_base.specs.declared.value.Value.{Value}
-use Rattle.pl_names.specs.Names.{Name}
-use Rattle.pl_names.specs.declared.scope.Scope.{Scope}
-use Rattle.pl_undo.specs.Database.{Database}
+use Rattle.pl_meaning.specs.pl_names.Names.{Name}
+use Rattle.pl_meaning.specs.pl_names.declared.scope.Scope.{Scope}
+use Rattle.pl_meaning.specs.pl_undo.Database.{Database}
 
 -- ---- a call that runs
 

@@ -4,7 +4,7 @@ ghost use Rattle.std.specs.Prelude.{◌≡◌, ◌∷◌, [], codes, false, neg_
 ghost use Rattle.pl_base.specs.States.{DIVISION_BY_ZERO, QUERY_CANCELED, RAISE_EXCEPTION};
 ghost use Rattle.pl_base.specs.declared.types.Ty.TheVariants.{Text as TextType};
 ghost use Rattle.pl_calc.specs.Logic.{is_null};
-ghost use Rattle.pl_names.specs.Names.{qualified_means};
+ghost use Rattle.pl_meaning.specs.pl_names.Names.{qualified_means};
 ghost use Rattle.pl_print.specs.TextForm.{output};
 ghost use Rattle.pl_tree.specs.declared.command.RoutineKind.TheVariants.{Function, Procedure};
 ghost use Rattle.pl_world.specs.Calls.{given, is_called_by, void};

@@ -13,4 +13,5 @@ pub use laws::{
     savepoints_are_found, steps_end_all, steps_end_at_any_depth,
 };
 pub use outcome::Outcome;
+pub use pl_meaning::{pl_change, pl_define, pl_inside, pl_journal, pl_names, pl_scope};
 pub use session::{Mode, Reply};

@@ -3,10 +3,10 @@ use Rattle.pl_altering.proofs.Ended.{failed, not_placed, placed, placing, stops}
 use Rattle.pl_altering.proofs.altering.alter_resolved.Goals as goal
 use Rattle.pl_altering.specs.Ends.{changes}
 use Rattle.pl_base.specs.declared.fail.Fail.{Fail}
-use Rattle.pl_engine.proofs.Joins.{before, lawful, refused, stopped}
-use Rattle.pl_engine.specs.Answers.{Done, Stopped}
-use Rattle.pl_engine.specs.Engines.{Quiet, world}
-use Rattle.pl_engine.specs.Texts.{do_bodies}
+use Rattle.pl_querying.proofs.of_pl_engine.Joins.{before, lawful, refused, stopped}
+use Rattle.pl_querying.specs.pl_engine.Answers.{Done, Stopped}
+use Rattle.pl_querying.specs.pl_engine.Engines.{Quiet, world}
+use Rattle.pl_querying.specs.pl_engine.Texts.{do_bodies}
 use Rattle.pl_targets.specs.declared.change.RChange.{RChange}
 use Rattle.pl_value.specs.Frames.{Row}
 use Rattle.pl_world.specs.Statements.{runner_for}

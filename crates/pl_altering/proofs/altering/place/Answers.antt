@@ -1,7 +1,7 @@
 use Rattle.std.proofs.Common.{IfOk, List, Option, false, subst, sym}
 use Rattle.pl_altering.proofs.altering.place.Goals as goal
 use Rattle.pl_bodies.specs.declared.simple.IntoClause.{IntoClause}
-use Rattle.pl_engine.specs.Engines.{Quiet, world}
+use Rattle.pl_querying.specs.pl_engine.Engines.{Quiet, world}
 use Rattle.pl_world.specs.Commands.{into, returned}
 use Rattle.pl_world.specs.Resolving.{Variable}
 

@@ -1,7 +1,7 @@
 use Rattle.std.proofs.Common.{subst}
 use Rattle.pl_altering.proofs.Placed.{none_shown, some_shown}
 use Rattle.pl_altering.proofs.altering.refuse_rows.Goals as goal
-use Rattle.pl_engine.specs.Engines.{Quiet, world}
+use Rattle.pl_querying.specs.pl_engine.Engines.{Quiet, world}
 use Rattle.pl_targets.specs.declared.change.RChange.{RChange}
 use Rattle.pl_world.specs.Commands.{unless_returning}
 use Rattle.pl_world.specs.declared.outcome.Outcome.TheVariants as outcome

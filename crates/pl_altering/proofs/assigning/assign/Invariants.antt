@@ -1,5 +1,5 @@
 use Rattle.std.proofs.Common.{◌≡◌, length}
-use Rattle.pl_change.specs.Changes.{assigned}
+use Rattle.pl_world.specs.pl_change.Changes.{assigned}
 use Rattle.pl_altering.proofs.assigning.assign.Given as goal
 
 abbrev pub invariant-loop-columns : goal.invariant-loop-columns

@@ -1,8 +1,8 @@
 use Rattle.std.proofs.Common.{refl}
 use Rattle.pl_altering.proofs.Ended.{change_done, change_keeps, change_stopped}
 use Rattle.pl_altering.proofs.changing.change.Goals as goal
-use Rattle.pl_engine.proofs.Joins.{before, lawful, refused}
-use Rattle.pl_engine.specs.Texts.{do_bodies}
+use Rattle.pl_querying.proofs.of_pl_engine.Joins.{before, lawful, refused}
+use Rattle.pl_querying.specs.pl_engine.Texts.{do_bodies}
 use Rattle.pl_world.specs.Statements.{runner_for}
 
 pub returns-in_err-begin_change-clause-is : goal.returns-in_err-begin_change-clause-is

@@ -6,12 +6,12 @@ use Rattle.pl_altering.specs.Entries.{AreEnough, entries}
 use Rattle.pl_altering.specs.Settings.{ReadsOver, setting_over}
 use Rattle.pl_altering.specs.declared.command.Command.{Command}
 use Rattle.pl_altering.specs.declared.keeping.Entry.{Entry}
-use Rattle.pl_calling.specs.Standing.{Standing}
-use Rattle.pl_change.specs.Running.{copied}
-use Rattle.pl_change.specs.declared.at_start.Copies.{Copies}
-use Rattle.pl_engine.proofs.Joins.{before, lawful, refused}
-use Rattle.pl_engine.specs.Engines.{world}
-use Rattle.pl_engine.specs.Texts.{do_bodies}
+use Rattle.pl_querying.specs.pl_calling.Standing.{Standing}
+use Rattle.pl_world.specs.pl_change.Running.{copied}
+use Rattle.pl_world.specs.pl_change.declared.at_start.Copies.{Copies}
+use Rattle.pl_querying.proofs.of_pl_engine.Joins.{before, lawful, refused}
+use Rattle.pl_querying.specs.pl_engine.Engines.{world}
+use Rattle.pl_querying.specs.pl_engine.Texts.{do_bodies}
 use Rattle.pl_query.specs.Query.{rows}
 use Rattle.pl_query.specs.declared.within.Queries.{Queries}
 use Rattle.pl_resolved.specs.declared.query.RQuery.{RQuery}

@@ -1,7 +1,7 @@
 use Rattle.std.proofs.Common.{◌≡◌, ◌∙◌, IfOk, ℕ, Option, [], ap, subst, sym}
 use Rattle.pl_altering.proofs.keeping.keep_found.Goals as goal
 use Rattle.pl_altering.specs.Entries.{entries, entry_found}
-use Rattle.pl_engine.specs.Engines.{world}
+use Rattle.pl_querying.specs.pl_engine.Engines.{world}
 use Rattle.pl_tables.specs.Named.{row_named}
 use Rattle.pl_tables.specs.Slots.{before}
 use Rattle.pl_undo.specs.Database.{Database}

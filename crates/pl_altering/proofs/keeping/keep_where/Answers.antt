@@ -1,8 +1,8 @@
 use Rattle.std.proofs.Common.{◌≡◌, IfOk, Result, Ok, Err, inl, inr, subst}
 use Rattle.pl_altering.proofs.keeping.keep_where.Goals as goal
 use Rattle.pl_altering.specs.Entries.{AreVisited, entries, entry_found}
-use Rattle.pl_change.specs.ByKey.{AreFoundFor, IsFoundFor}
-use Rattle.pl_engine.specs.Engines.{world}
+use Rattle.pl_world.specs.pl_change.ByKey.{AreFoundFor, IsFoundFor}
+use Rattle.pl_querying.specs.pl_engine.Engines.{world}
 use Rattle.pl_tables.specs.Named.{rows_named}
 use Rattle.pl_undo.specs.Database.{Database}
 use Rattle.pl_value.specs.Frames.{rows_of}

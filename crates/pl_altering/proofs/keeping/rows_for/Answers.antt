@@ -1,7 +1,7 @@
 use Rattle.std.proofs.Common.{◌∷◌, IfOk, [], subst, sym}
 use Rattle.pl_altering.proofs.keeping.rows_for.Goals as goal
 use Rattle.pl_altering.specs.Entries.{AreEnoughFor, entries}
-use Rattle.pl_engine.specs.Engines.{world}
+use Rattle.pl_querying.specs.pl_engine.Engines.{world}
 use Rattle.pl_targets.specs.declared.change.RWhat.{RWhat}
 
 pub returns-in-Insert : goal.returns-in-Insert

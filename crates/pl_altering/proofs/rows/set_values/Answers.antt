@@ -4,7 +4,7 @@ use Rattle.pl_altering.proofs.Wrote.{StillThere, gone_over, is_there, still_over
 use Rattle.pl_altering.proofs.rows.set_values.Goals as goal
 use Rattle.pl_altering.specs.Entries.{entry_of}
 use Rattle.pl_altering.specs.Settings.{ReadsOver}
-use Rattle.pl_change.specs.Changes.{assigned}
+use Rattle.pl_world.specs.pl_change.Changes.{assigned}
 use Rattle.pl_tables.specs.Named.{row_named}
 use Rattle.pl_undo.specs.Database.{Database}
 use Rattle.pl_value.specs.Frames.{Row}

@@ -5,9 +5,9 @@ use Rattle.pl_asking.proofs.Valued.{assigns}
 use Rattle.pl_asking.proofs.assigning.assign.Goals as goal
 use Rattle.pl_asking.specs.Values.{AssignedAtOnce}
 use Rattle.pl_asking.specs.declared.direct.Stored.{Stored}
-use Rattle.pl_engine.proofs.Joins.{acted, lawful, start}
-use Rattle.pl_engine.specs.Engines.{world}
-use Rattle.pl_engine.specs.Texts.{do_bodies}
+use Rattle.pl_calling.proofs.of_pl_engine.Joins.{acted, lawful, start}
+use Rattle.pl_calling.specs.pl_engine.Engines.{world}
+use Rattle.pl_calling.specs.pl_engine.Texts.{do_bodies}
 use Rattle.pl_world.specs.Statements.{runner_for}
 use Rattle.pl_world.specs.declared.outcome.Outcome.TheVariants as outcome
 

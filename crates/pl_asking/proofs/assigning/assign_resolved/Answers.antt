@@ -1,9 +1,9 @@
 use Rattle.std.proofs.Common.{Err, refl, subst}
 use Rattle.pl_asking.proofs.Valued.{assigns, assigns_not, assigns_to}
 use Rattle.pl_asking.proofs.assigning.assign_resolved.Goals as goal
-use Rattle.pl_engine.proofs.Joins.{acted, answered, becomes, before, lawful, start}
-use Rattle.pl_engine.specs.Engines.{world}
-use Rattle.pl_engine.specs.Texts.{do_bodies}
+use Rattle.pl_calling.proofs.of_pl_engine.Joins.{acted, answered, becomes, before, lawful, start}
+use Rattle.pl_calling.specs.pl_engine.Engines.{world}
+use Rattle.pl_calling.specs.pl_engine.Texts.{do_bodies}
 use Rattle.pl_typing.specs.Resolved.{Gives}
 use Rattle.pl_typing.specs.declared.fail.ScopeFail.{ScopeFail}
 use Rattle.pl_world.specs.Resolving.{Variable, aiming}

@@ -2,10 +2,10 @@ use Rattle.std.proofs.Common.{◌∙◌, Err, Some, ap, refl, subst, sym}
 use Rattle.pl_asking.proofs.Acts.{resolved_err, resolved_ok}
 use Rattle.pl_asking.proofs.Tried.{case_is, operand_read}
 use Rattle.pl_asking.proofs.cases.case_operand.Goals as goal
-use Rattle.pl_engine.proofs.Joins.{acted, answered, becomes, before, lawful, start}
-use Rattle.pl_engine.specs.Engines.{world}
-use Rattle.pl_engine.specs.Texts.{do_bodies}
-use Rattle.pl_scope.specs.declared.resolve.ResolvedExpr.{ResolvedExpr}
+use Rattle.pl_calling.proofs.of_pl_engine.Joins.{acted, answered, becomes, before, lawful, start}
+use Rattle.pl_calling.specs.pl_engine.Engines.{world}
+use Rattle.pl_calling.specs.pl_engine.Texts.{do_bodies}
+use Rattle.pl_direct.specs.pl_scope.declared.resolve.ResolvedExpr.{ResolvedExpr}
 use Rattle.pl_typing.specs.Resolved.{Gives}
 use Rattle.pl_typing.specs.declared.fail.ScopeFail.{ScopeFail}
 use Rattle.pl_world.specs.Control.{case}

@@ -2,9 +2,9 @@ use Rattle.std.proofs.Common.{◌∙◌, List, ap, false, refl, rules, sym, true
 use Rattle.pl_asking.proofs.Tried.{arm_here, arm_next, arms_end}
 use Rattle.pl_asking.proofs.cases.try_arms.Goals as goal
 use Rattle.pl_bodies.specs.declared.statement.Statement.{Statement}
-use Rattle.pl_engine.proofs.Joins.{answered, becomes, lawful, refused, start}
-use Rattle.pl_engine.specs.Engines.{world}
-use Rattle.pl_engine.specs.Texts.{do_bodies}
+use Rattle.pl_calling.proofs.of_pl_engine.Joins.{answered, becomes, lawful, refused, start}
+use Rattle.pl_calling.specs.pl_engine.Engines.{world}
+use Rattle.pl_calling.specs.pl_engine.Texts.{do_bodies}
 use Rattle.pl_flow.proofs.Asked.{asked_off, asked_on, asked_stopped}
 use Rattle.pl_flow.specs.Answered.{truth_of}
 use Rattle.pl_world.specs.Control.{arms_tried}

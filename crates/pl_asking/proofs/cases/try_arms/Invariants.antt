@@ -1,8 +1,8 @@
 use Rattle.std.proofs.Common.{◌≡◌, drop}
 use Rattle.pl_asking.proofs.cases.try_arms.Given as goal
-use Rattle.pl_engine.specs.Answers.{Partway}
-use Rattle.pl_engine.specs.Engines.{kept, world}
-use Rattle.pl_engine.specs.Texts.{do_bodies}
+use Rattle.pl_calling.specs.pl_engine.Answers.{Partway}
+use Rattle.pl_calling.specs.pl_engine.Engines.{kept, world}
+use Rattle.pl_calling.specs.pl_engine.Texts.{do_bodies}
 use Rattle.pl_world.specs.Control.{arms_tried}
 use Rattle.pl_world.specs.Statements.{runner_for}
 

@@ -3,9 +3,9 @@ use Rattle.pl_asking.proofs.Tried.{operand_here, operand_next}
 use Rattle.pl_asking.proofs.cases.try_value.Goals as goal
 use Rattle.pl_asking.specs.Values.{value_of}
 use Rattle.pl_base.specs.declared.types.Ty.{Ty}
-use Rattle.pl_engine.proofs.Joins.{answered, becomes, lawful, refused}
-use Rattle.pl_engine.specs.Engines.{world}
-use Rattle.pl_engine.specs.Texts.{do_bodies}
+use Rattle.pl_calling.proofs.of_pl_engine.Joins.{answered, becomes, lawful, refused}
+use Rattle.pl_calling.specs.pl_engine.Engines.{world}
+use Rattle.pl_calling.specs.pl_engine.Texts.{do_bodies}
 use Rattle.pl_flow.proofs.Asked.{asked_off, asked_on, asked_stopped}
 use Rattle.pl_typing.specs.Typing.{as_text_type}
 use Rattle.pl_world.specs.Control.{arms_tried}

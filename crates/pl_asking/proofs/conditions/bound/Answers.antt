@@ -2,8 +2,8 @@ use Rattle.std.proofs.Common.{refl, rules}
 use Rattle.pl_asking.proofs.Valued.{bound_here, bound_next}
 use Rattle.pl_asking.proofs.conditions.bound.Goals as goal
 use Rattle.pl_asking.specs.Values.{value_of}
-use Rattle.pl_engine.proofs.Joins.{acted, before, lawful, refused, stopped}
-use Rattle.pl_engine.specs.Texts.{do_bodies}
+use Rattle.pl_calling.proofs.of_pl_engine.Joins.{acted, before, lawful, refused, stopped}
+use Rattle.pl_calling.specs.pl_engine.Texts.{do_bodies}
 use Rattle.pl_flow.proofs.Asked.{asked_off, asked_on, asked_stopped}
 use Rattle.pl_world.specs.Statements.{runner_for}
 

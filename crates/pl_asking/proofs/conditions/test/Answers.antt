@@ -2,10 +2,10 @@ use Rattle.std.proofs.Common.{refl}
 use Rattle.pl_asking.proofs.AtOnce.{of_some}
 use Rattle.pl_asking.proofs.conditions.test.Goals as goal
 use Rattle.pl_asking.specs.Values.{TestedAtOnce}
-use Rattle.pl_engine.proofs.Joins.{becomes, ended, lawful, start}
-use Rattle.pl_engine.specs.Asks.{truth}
-use Rattle.pl_engine.specs.Engines.{world}
-use Rattle.pl_engine.specs.Texts.{do_bodies}
+use Rattle.pl_calling.proofs.of_pl_engine.Joins.{becomes, ended, lawful, start}
+use Rattle.pl_calling.specs.pl_engine.Asks.{truth}
+use Rattle.pl_calling.specs.pl_engine.Engines.{world}
+use Rattle.pl_calling.specs.pl_engine.Texts.{do_bodies}
 use Rattle.pl_world.specs.Control.{tested}
 use Rattle.pl_world.specs.Statements.{runner_for}
 

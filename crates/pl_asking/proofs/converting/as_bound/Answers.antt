@@ -4,7 +4,7 @@ use Rattle.pl_asking.proofs.Valued.{number_next}
 use Rattle.pl_asking.proofs.converting.as_bound.Goals as goal
 use Rattle.pl_base.specs.declared.types.Ty.TheVariants.{Int as Integer}
 use Rattle.pl_calc.specs.Answer.{Gives}
-use Rattle.pl_engine.specs.Engines.{world}
+use Rattle.pl_calling.specs.pl_engine.Engines.{world}
 use Rattle.pl_world.specs.Conversions.{converted}
 
 pub returns-in-Ok : goal.returns-in-Ok

@@ -4,7 +4,7 @@ use Rattle.pl_asking.proofs.converting.as_truth.Goals as goal
 use Rattle.pl_base.specs.declared.types.Ty.TheVariants.{Bool as Boolean}
 use Rattle.pl_base.specs.declared.value.Value.TheVariants.{Bool as Truth}
 use Rattle.pl_calc.specs.Answer.{Gives}
-use Rattle.pl_engine.specs.Engines.{world}
+use Rattle.pl_calling.specs.pl_engine.Engines.{world}
 use Rattle.pl_world.specs.Conversions.{converted}
 use Rattle.pl_world.specs.declared.outcome.Outcome.TheVariants as outcome
 

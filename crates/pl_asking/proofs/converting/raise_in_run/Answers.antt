@@ -1,7 +1,7 @@
 use Rattle.std.proofs.Common.{subst}
 use Rattle.pl_asking.proofs.converting.raise_in_run.Goals as goal
 use Rattle.pl_base.specs.declared.state.State.{State}
-use Rattle.pl_engine.specs.Engines.{Quiet, world}
+use Rattle.pl_calling.specs.pl_engine.Engines.{Quiet, world}
 use Rattle.pl_world.specs.Errors.{raised}
 
 pub returns : goal.returns

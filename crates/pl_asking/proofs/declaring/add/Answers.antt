@@ -1,7 +1,7 @@
 use Rattle.std.proofs.Common.{sym}
 use Rattle.pl_asking.proofs.Acts.{declared_last, declared_steps, kept_here, kept_not, quiet_is, quiet_step}
 use Rattle.pl_asking.proofs.declaring.add.Goals as goal
-use Rattle.pl_engine.specs.Engines.{world}
+use Rattle.pl_calling.specs.pl_engine.Engines.{world}
 use Rattle.pl_world.specs.Assigning.{takes}
 use Rattle.pl_world.specs.Variables.{declared}
 

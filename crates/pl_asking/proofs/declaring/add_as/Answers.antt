@@ -3,7 +3,7 @@ use Rattle.pl_asking.proofs.Acts.{as_type_err, as_type_ok, quiet_if, quiet_is}
 use Rattle.pl_asking.proofs.Valued.{kept_next}
 use Rattle.pl_asking.proofs.declaring.add_as.Goals as goal
 use Rattle.pl_calc.specs.Answer.{Gives}
-use Rattle.pl_engine.specs.Engines.{world}
+use Rattle.pl_calling.specs.pl_engine.Engines.{world}
 use Rattle.pl_world.specs.Conversions.{converted}
 
 pub returns-in-Ok-clause-is : goal.returns-in-Ok-clause-is

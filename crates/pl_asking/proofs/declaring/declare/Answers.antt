@@ -3,9 +3,9 @@ use Rattle.pl_asking.proofs.Valued.{declares_as, declares_not}
 use Rattle.pl_asking.proofs.declaring.declare.Goals as goal
 use Rattle.pl_base.specs.declared.types.Ty.{Ty}
 use Rattle.pl_bodies.specs.declared.declaration.DeclarationKind.{DeclarationKind}
-use Rattle.pl_engine.proofs.Joins.{acted, answered, becomes, before, lawful, start}
-use Rattle.pl_engine.specs.Engines.{world}
-use Rattle.pl_engine.specs.Texts.{do_bodies}
+use Rattle.pl_calling.proofs.of_pl_engine.Joins.{acted, answered, becomes, before, lawful, start}
+use Rattle.pl_calling.specs.pl_engine.Engines.{world}
+use Rattle.pl_calling.specs.pl_engine.Texts.{do_bodies}
 use Rattle.pl_typing.specs.Resolved.{Gives}
 use Rattle.pl_typing.specs.declared.fail.ScopeFail.{ScopeFail}
 use Rattle.pl_world.specs.Blocks.{one_declared}

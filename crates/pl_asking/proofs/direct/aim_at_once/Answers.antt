@@ -2,7 +2,7 @@ use Rattle.std.proofs.Common.{◌∙◌, ap}
 use Rattle.std.proofs.lemmas.Option.{IfSome_then}
 use Rattle.pl_asking.proofs.AtOnce.{aims_at}
 use Rattle.pl_asking.proofs.direct.aim_at_once.Goals as goal
-use Rattle.pl_engine.specs.Engines.{world}
+use Rattle.pl_calling.specs.pl_engine.Engines.{world}
 use Rattle.pl_world.specs.World.{Static}
 
 pub returns-in-None : goal.returns-in-None

@@ -1,7 +1,7 @@
 use Rattle.std.proofs.Common.{◌∙◌, ap, sym}
 use Rattle.pl_asking.proofs.AtOnce.{given_at_once}
 use Rattle.pl_asking.proofs.direct.given_at_once.Goals as goal
-use Rattle.pl_engine.specs.Engines.{world}
+use Rattle.pl_calling.specs.pl_engine.Engines.{world}
 use Rattle.pl_world.specs.World.{Static}
 
 pub returns-in_ok-known-in-Some : goal.returns-in_ok-known-in-Some

@@ -3,7 +3,7 @@ use Rattle.pl_asking.proofs.AtOnce.{tested_at_once}
 use Rattle.pl_asking.proofs.direct.truth_at_once.Goals as goal
 use Rattle.pl_asking.specs.Values.{DirectlyIs}
 use Rattle.pl_direct.specs.declared.known.Known.{Known}
-use Rattle.pl_engine.specs.Engines.{world}
+use Rattle.pl_calling.specs.pl_engine.Engines.{world}
 
 pub returns-in-Bool : goal.returns-in-Bool
 returns-in-Bool c =

@@ -1,7 +1,7 @@
 use Rattle.std.proofs.Common.{◌≡◌, drop}
 use Rattle.pl_asking.proofs.Acts.{Quietly, with_count}
 use Rattle.pl_asking.proofs.placing.diagnose.Given as goal
-use Rattle.pl_engine.specs.Engines.{kept, world}
+use Rattle.pl_calling.specs.pl_engine.Engines.{kept, world}
 use Rattle.pl_world.specs.Assigning.{diagnosed, put_each}
 
 abbrev pub invariant-loop-target : goal.invariant-loop-target

@@ -2,7 +2,7 @@ use Rattle.std.proofs.Common.{◌∙◌, Err, ap, subst, sym}
 use Rattle.pl_asking.proofs.Acts.{as_type_err, as_type_ok, put_is, put_next, quiet_is}
 use Rattle.pl_asking.proofs.placing.put.Goals as goal
 use Rattle.pl_calc.specs.Answer.{Gives}
-use Rattle.pl_engine.specs.Engines.{world}
+use Rattle.pl_calling.specs.pl_engine.Engines.{world}
 use Rattle.pl_world.specs.Conversions.{converted}
 use Rattle.pl_world.specs.Resolving.{Variable}
 

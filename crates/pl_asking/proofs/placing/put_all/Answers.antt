@@ -1,7 +1,7 @@
 use Rattle.std.proofs.Common.{◌∙◌, refl}
 use Rattle.pl_asking.proofs.Acts.{all_end, all_off, all_on, quiet_start}
 use Rattle.pl_asking.proofs.placing.put_all.Goals as goal
-use Rattle.pl_engine.specs.Engines.{world}
+use Rattle.pl_calling.specs.pl_engine.Engines.{world}
 use Rattle.pl_world.specs.Assigning.{put_all}
 
 pub loop-variable-init : goal.loop-variable-init

@@ -1,7 +1,7 @@
 use Rattle.std.proofs.Common.{◌≡◌, drop}
 use Rattle.pl_asking.proofs.Acts.{Quietly}
 use Rattle.pl_asking.proofs.placing.put_all.Given as goal
-use Rattle.pl_engine.specs.Engines.{kept, world}
+use Rattle.pl_calling.specs.pl_engine.Engines.{kept, world}
 use Rattle.pl_world.specs.Assigning.{put_all}
 
 abbrev pub invariant-loop-variable : goal.invariant-loop-variable

@@ -1,7 +1,7 @@
 use Rattle.std.proofs.Common.{Err, subst}
 use Rattle.pl_asking.proofs.Acts.{put_it, quiet_if, quiet_is, resolved_err, resolved_ok}
 use Rattle.pl_asking.proofs.placing.put_at.Goals as goal
-use Rattle.pl_engine.specs.Engines.{world}
+use Rattle.pl_calling.specs.pl_engine.Engines.{world}
 use Rattle.pl_typing.specs.Resolved.{Gives}
 use Rattle.pl_typing.specs.declared.fail.ScopeFail.{ScopeFail}
 use Rattle.pl_world.specs.Resolving.{Variable, aiming}

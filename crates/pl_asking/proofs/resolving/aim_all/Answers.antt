@@ -1,7 +1,7 @@
 use Rattle.std.proofs.Common.{◌+◌, ◌∙◌, List, ap, drop, sym}
 use Rattle.pl_asking.proofs.Aimed.{aimed_all, aimed_failed, aimed_more, aimed_none, behind_those}
 use Rattle.pl_asking.proofs.resolving.aim_all.Goals as goal
-use Rattle.pl_engine.specs.Engines.{world}
+use Rattle.pl_calling.specs.pl_engine.Engines.{world}
 use Rattle.pl_world.specs.Resolving.{Variable, aiming_all}
 
 pub loop-target-init : goal.loop-target-init

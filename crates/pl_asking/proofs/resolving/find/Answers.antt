@@ -1,9 +1,9 @@
 use Rattle.std.proofs.Common.{◌≡◌, ◌∙◌, Err, Ok, ap, subst, sym}
 use Rattle.pl_asking.proofs.Aimed.{found, found_not_in, found_not_listed, listed_here, operand_first}
 use Rattle.pl_asking.proofs.resolving.find.Goals as goal
-use Rattle.pl_engine.specs.Engines.{world}
-use Rattle.pl_names.specs.Names.{around}
-use Rattle.pl_scope.specs.declared.resolve.ResolvedExpr.{ResolvedExpr}
+use Rattle.pl_calling.specs.pl_engine.Engines.{world}
+use Rattle.pl_calling.specs.pl_names.Names.{around}
+use Rattle.pl_direct.specs.pl_scope.declared.resolve.ResolvedExpr.{ResolvedExpr}
 use Rattle.pl_typing.specs.Resolved.{Gives}
 use Rattle.pl_typing.specs.Unions.{listed_none, listed_with}
 use Rattle.pl_typing.specs.declared.typed.Typed.{Typed}

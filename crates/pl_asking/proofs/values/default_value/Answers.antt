@@ -1,9 +1,9 @@
 use Rattle.std.proofs.Common.{Option, ap, refl}
 use Rattle.pl_asking.proofs.values.default_value.Goals as goal
 use Rattle.pl_asking.specs.Values.{read_default}
-use Rattle.pl_engine.proofs.Joins.{answered, becomes, ended, lawful, start}
-use Rattle.pl_engine.specs.Engines.{world}
-use Rattle.pl_engine.specs.Texts.{do_bodies}
+use Rattle.pl_calling.proofs.of_pl_engine.Joins.{answered, becomes, ended, lawful, start}
+use Rattle.pl_calling.specs.pl_engine.Engines.{world}
+use Rattle.pl_calling.specs.pl_engine.Texts.{do_bodies}
 use Rattle.pl_tree.specs.declared.tree.Expr.{Expr}
 use Rattle.pl_world.specs.Statements.{runner_for}
 use Rattle.std.proofs.Common.{rules, Some, ◌≡◌}

@@ -3,9 +3,9 @@ use Rattle.pl_asking.proofs.AtOnce.{of_some}
 use Rattle.pl_asking.proofs.Valued.{gives_is, gives_none}
 use Rattle.pl_asking.proofs.values.returns.Goals as goal
 use Rattle.pl_asking.specs.Values.{GivenAtOnce}
-use Rattle.pl_engine.proofs.Joins.{answered, becomes, ended, lawful, start}
-use Rattle.pl_engine.specs.Engines.{world}
-use Rattle.pl_engine.specs.Texts.{do_bodies}
+use Rattle.pl_calling.proofs.of_pl_engine.Joins.{answered, becomes, ended, lawful, start}
+use Rattle.pl_calling.specs.pl_engine.Engines.{world}
+use Rattle.pl_calling.specs.pl_engine.Texts.{do_bodies}
 use Rattle.pl_world.specs.Control.{returns}
 use Rattle.pl_world.specs.Resolving.{giving}
 use Rattle.pl_world.specs.Statements.{runner_for}

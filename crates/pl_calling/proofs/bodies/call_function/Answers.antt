@@ -5,7 +5,7 @@ use Rattle.pl_calling.proofs.bodies.call_function.Goals as goal
 use Rattle.pl_calling.specs.Called.{CallsIt}
 use Rattle.pl_base.specs.declared.value.Value.{Value}
 use Rattle.pl_engine.specs.Engines.{world}
-use Rattle.pl_world.specs.Calls.{most_calls}
+use Rattle.pl_engine.specs.pl_world.Calls.{most_calls}
 
 pub returns-then-calls-lt-MOST_CALLS-clause-is : goal.returns-then-calls-lt-MOST_CALLS-clause-is
 returns-then-calls-lt-MOST_CALLS-clause-is g c =

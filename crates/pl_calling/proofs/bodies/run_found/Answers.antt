@@ -6,9 +6,9 @@ use Rattle.pl_engine.specs.Answers.{Done}
 use Rattle.pl_engine.specs.Engines.{Quiet, world}
 use Rattle.pl_engine.specs.Texts.{do_bodies}
 use Rattle.pl_engine.specs.contracts.held.HeldPort.TheImpl.{ghosts}
-use Rattle.pl_world.specs.Calls.{given}
-use Rattle.pl_world.specs.Running.{body, spot_of}
-use Rattle.pl_world.specs.Statements.{run_within}
+use Rattle.pl_engine.specs.pl_world.Calls.{given}
+use Rattle.pl_engine.specs.pl_world.Running.{body, spot_of}
+use Rattle.pl_engine.specs.pl_world.Statements.{run_within}
 
 pub returns-clause-is : goal.returns-clause-is
 returns-clause-is g c = λ callee is.

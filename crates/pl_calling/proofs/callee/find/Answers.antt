@@ -5,7 +5,7 @@ use Rattle.pl_catalog.specs.Objects.{routine_named, routines_in}
 use Rattle.pl_catalog.specs.declared.object.Object.{Object}
 use Rattle.pl_engine.specs.Engines.{world}
 use Rattle.pl_undo.specs.Database.{Database}
-use Rattle.pl_world.specs.Calls.{callee_of}
+use Rattle.pl_engine.specs.pl_world.Calls.{callee_of}
 
 pub returns-in_ok-hold-in-Some : goal.returns-in_ok-hold-in-Some
 returns-in_ok-hold-in-Some c =

@@ -4,8 +4,8 @@ use Rattle.pl_calc.specs.Answer.{Gives}
 use Rattle.pl_calling.proofs.Entered.{typed, untyped}
 use Rattle.pl_calling.proofs.converting.as_type.Goals as goal
 use Rattle.pl_engine.specs.Engines.{Quiet, world}
-use Rattle.pl_world.specs.Conversions.{converted}
-use Rattle.pl_world.specs.Errors.{raised}
+use Rattle.pl_engine.specs.pl_world.Conversions.{converted}
+use Rattle.pl_engine.specs.pl_world.Errors.{raised}
 
 pub returns-in-Ok : goal.returns-in-Ok
 returns-in-Ok c = typed c.args.to c.args.v.now c.in-Ok.v c.args.at c.args.engine.now c.in-Ok.ensures

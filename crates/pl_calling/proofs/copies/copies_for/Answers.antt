@@ -1,11 +1,11 @@
 use Rattle.std.proofs.Common.{◌≡◌, List, subst, ℕ}
 use Rattle.pl_calling.proofs.Entered.{each_ok}
 use Rattle.pl_calling.proofs.copies.copies_for.Goals as goal
-use Rattle.pl_change.specs.Running.{copied}
+use Rattle.pl_engine.specs.pl_change.Running.{copied}
 use Rattle.pl_engine.specs.Engines.{world}
-use Rattle.pl_inside.specs.Agreement.{AgreeOn}
-use Rattle.pl_journal.specs.Rows.{tables_of}
-use Rattle.pl_query.specs.Query.{rows}
+use Rattle.pl_engine.specs.pl_inside.Agreement.{AgreeOn}
+use Rattle.pl_engine.specs.pl_journal.Rows.{tables_of}
+use Rattle.pl_natural.specs.pl_query.Query.{rows}
 use Rattle.pl_resolved.specs.declared.query.RQuery.{RQuery}
 use Rattle.pl_undo.specs.Database.{Database}
 

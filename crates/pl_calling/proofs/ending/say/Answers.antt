@@ -4,7 +4,7 @@ use Rattle.pl_calling.proofs.ending.say.Goals as goal
 use Rattle.pl_engine.proofs.Joins.{lawful}
 use Rattle.pl_engine.proofs.Rises.{risen, wanted}
 use Rattle.pl_engine.specs.declared.stop.Stop.TheVariants.{Say}
-use Rattle.pl_world.specs.Trace.{Said}
+use Rattle.pl_engine.specs.pl_world.Trace.{Said}
 
 pub returns-in-Err-Device : goal.returns-in-Err-Device
 returns-in-Err-Device g c = λ db fits. line_cut (lawful g.P.Port g.met.P.Port.none g.met.P.Port.joins g.met.P.Port.rises) db c.args.lines.now Say (c.in-Err-Device.ensures.err db fits)

@@ -4,9 +4,9 @@ use Rattle.pl_calling.proofs.evaluating.evaluate.Goals as goal
 use Rattle.pl_engine.specs.Answers.{Answers}
 use Rattle.pl_engine.specs.Engines.{world}
 use Rattle.pl_engine.specs.Texts.{do_bodies}
-use Rattle.pl_world.specs.Statements.{runner_for}
-use Rattle.pl_world.specs.World.{Ran}
-use Rattle.pl_world.specs.declared.outcome.Outcome.{Outcome}
+use Rattle.pl_engine.specs.pl_world.Statements.{runner_for}
+use Rattle.pl_engine.specs.pl_world.World.{Ran}
+use Rattle.pl_engine.specs.pl_world.declared.outcome.Outcome.{Outcome}
 
 pub returns-clause-is : goal.returns-clause-is
 returns-clause-is g c =

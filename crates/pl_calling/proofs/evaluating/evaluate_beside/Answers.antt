@@ -3,9 +3,9 @@ use Rattle.pl_calling.proofs.Telling.{read_error, read_stopped, read_value}
 use Rattle.pl_calling.proofs.evaluating.evaluate_beside.Goals as goal
 use Rattle.pl_engine.specs.Engines.{world}
 use Rattle.pl_engine.specs.Texts.{do_bodies}
-use Rattle.pl_world.specs.Expressions.{value_over}
-use Rattle.pl_world.specs.Statements.{runner_for}
-use Rattle.pl_world.specs.Variables.{row_of}
+use Rattle.pl_engine.specs.pl_world.Expressions.{value_over}
+use Rattle.pl_engine.specs.pl_world.Statements.{runner_for}
+use Rattle.pl_engine.specs.pl_world.Variables.{row_of}
 
 pub returns-in-Ok-Ok-clause-is : goal.returns-in-Ok-Ok-clause-is
 returns-in-Ok-Ok-clause-is g c =

@@ -2,15 +2,15 @@ use Rattle.std.proofs.Common.{◌≡◌, ◌∙◌, refl, subst, sym}
 use Rattle.pl_calling.proofs.Overs.{rows_told}
 use Rattle.pl_calling.proofs.querying.rows_with_calls.Goals as goal
 use Rattle.pl_calling.specs.Standing.{calls_kept}
-use Rattle.pl_change.specs.Running.{copied}
+use Rattle.pl_engine.specs.pl_change.Running.{copied}
 use Rattle.pl_engine.proofs.Joins.{before, lawful, refused}
 use Rattle.pl_engine.specs.Engines.{world}
 use Rattle.pl_engine.specs.Texts.{do_bodies}
-use Rattle.pl_query.specs.Query.{rows}
-use Rattle.pl_world.specs.Expressions.{rows_over}
-use Rattle.pl_world.specs.Statements.{runner_for}
-use Rattle.pl_world.specs.Variables.{row_of}
-use Rattle.pl_world.specs.World.{World}
+use Rattle.pl_natural.specs.pl_query.Query.{rows}
+use Rattle.pl_engine.specs.pl_world.Expressions.{rows_over}
+use Rattle.pl_engine.specs.pl_world.Statements.{runner_for}
+use Rattle.pl_engine.specs.pl_world.Variables.{row_of}
+use Rattle.pl_engine.specs.pl_world.World.{World}
 
 pub returns-in_err-row-clause-is : goal.returns-in_err-row-clause-is
 returns-in_err-row-clause-is g c = refused _ _ _ c.from_residual.ensures (before (lawful g.P.Port g.met.P.Port.none g.met.P.Port.joins g.met.P.Port.rises) refl)

@@ -4,10 +4,10 @@ use Rattle.pl_calling.proofs.Overs.{value_told}
 use Rattle.pl_calling.proofs.trial.try_over.Goals as goal
 use Rattle.pl_calling.specs.Standing.{calls_kept, fresh}
 use Rattle.pl_engine.specs.Engines.{world}
-use Rattle.pl_journal.specs.Rows.{tables_of}
-use Rattle.pl_query.specs.Query.{rows}
+use Rattle.pl_engine.specs.pl_journal.Rows.{tables_of}
+use Rattle.pl_natural.specs.pl_query.Query.{rows}
 use Rattle.pl_undo.specs.Database.{Database}
-use Rattle.pl_world.specs.World.{World}
+use Rattle.pl_engine.specs.pl_world.World.{World}
 
 pub returns : goal.returns
 returns g c = (

@@ -4,7 +4,7 @@ use Rattle.pl_calling.proofs.Overs.{values_told}
 use Rattle.pl_calling.proofs.trial.try_values.Goals as goal
 use Rattle.pl_calling.specs.Standing.{fresh}
 use Rattle.pl_engine.specs.Engines.{world}
-use Rattle.pl_world.specs.World.{World}
+use Rattle.pl_engine.specs.pl_world.World.{World}
 
 pub returns : goal.returns
 returns g c = (

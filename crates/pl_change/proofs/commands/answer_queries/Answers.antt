@@ -4,7 +4,7 @@ use Rattle.pl_change.specs.Changes.{Progress, progress}
 use Rattle.pl_change.specs.Running.{copied, does_from, reached, rows_over, setting_of}
 use Rattle.pl_journal.proofs.OneTable.{only_same}
 use Rattle.pl_journal.specs.Rows.{tables_of}
-use Rattle.pl_query.specs.Query.{rows}
+use Rattle.pl_inside.specs.pl_query.Query.{rows}
 use Rattle.pl_change.specs.declared.at_start.Copies.{Copies}
 use Rattle.pl_inside.specs.Agreement.{AgreeOn}
 use Rattle.pl_resolved.specs.declared.query.RQuery.{RQuery}

@@ -5,7 +5,7 @@ use Rattle.pl_change.specs.Changes.{Progress, Setting, does, progress, setting}
 use Rattle.pl_change.specs.Running.{does_from, reached}
 use Rattle.pl_journal.proofs.OneTable.{only_same}
 use Rattle.pl_journal.specs.Rows.{tables_of}
-use Rattle.pl_query.specs.Query.{rows}
+use Rattle.pl_inside.specs.pl_query.Query.{rows}
 use Rattle.pl_value.specs.Answers.{Reads}
 use Rattle.pl_value.specs.Frames.{Frame, rows_of}
 use Rattle.pl_value.specs.Meaning.{Sub}

@@ -5,7 +5,7 @@ use Rattle.pl_change.specs.Running.{AreEnough}
 use Rattle.pl_change.specs.Changes.{Progress, deletes, ids, progress}
 use Rattle.pl_change.specs.Running.{reached, setting_of}
 use Rattle.pl_journal.proofs.OneTable.{only_same}
-use Rattle.pl_query.specs.Rows.{in_turn}
+use Rattle.pl_inside.specs.pl_query.Rows.{in_turn}
 use Rattle.pl_value.specs.Frames.{rows_of}
 use Rattle.pl_change.proofs.commands.delete.Goals as goal
 

@@ -4,7 +4,7 @@ use Rattle.pl_change.proofs.Turns.{turn_ends, turn_goes, turn_stops}
 use Rattle.pl_change.specs.Changes.{deletes, progress}
 use Rattle.pl_change.specs.Running.{setting_of}
 use Rattle.pl_journal.proofs.OneTable.{only_same, only_then}
-use Rattle.pl_query.specs.Rows.{in_turn}
+use Rattle.pl_inside.specs.pl_query.Rows.{in_turn}
 use Rattle.pl_value.specs.Frames.{Row}
 use Rattle.pl_change.proofs.commands.delete_each.Goals as goal
 

@@ -1,9 +1,9 @@
 use Rattle.std.proofs.Common.{◌≡◌, [], drop, List}
-use Rattle.pl_catalog.specs.declared.object.Object.{Object}
+use Rattle.pl_journal.specs.pl_catalog.declared.object.Object.{Object}
 use Rattle.pl_change.specs.Changes.{deletes, progress}
 use Rattle.pl_change.specs.Running.{setting_of}
 use Rattle.pl_journal.specs.Journal.{ChangesOnly}
-use Rattle.pl_query.specs.Rows.{in_turn}
+use Rattle.pl_inside.specs.pl_query.Rows.{in_turn}
 use Rattle.pl_change.proofs.commands.delete_each.Given as goal
 
 abbrev pub invariant-loop-id : goal.invariant-loop-id

@@ -1,7 +1,7 @@
 use Rattle.std.proofs.Common.{sym, subst, List, []}
 use Rattle.pl_change.specs.Changes.{Progress, adds_values, progress}
 use Rattle.pl_change.specs.Running.{adds_from, inserts_from, reached, rows_over, setting_of}
-use Rattle.pl_query.specs.Rows.{in_turn}
+use Rattle.pl_inside.specs.pl_query.Rows.{in_turn}
 use Rattle.pl_targets.specs.declared.change.RRow.{RRow}
 use Rattle.pl_targets.specs.declared.change.RRows.{RRows}
 use Rattle.pl_resolved.specs.declared.expression.RExpr.{RExpr}

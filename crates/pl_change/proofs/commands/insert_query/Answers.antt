@@ -3,8 +3,8 @@ use Rattle.pl_change.specs.Changes.{Progress, adds_found, progress}
 use Rattle.pl_change.specs.Running.{reached, setting_of}
 use Rattle.pl_journal.proofs.OneTable.{only_same}
 use Rattle.pl_journal.specs.Rows.{tables_of}
-use Rattle.pl_query.specs.Query.{rows}
-use Rattle.pl_query.specs.Rows.{in_turn}
+use Rattle.pl_inside.specs.pl_query.Query.{rows}
+use Rattle.pl_inside.specs.pl_query.Rows.{in_turn}
 use Rattle.pl_resolved.specs.declared.query.RQuery.{RQuery}
 use Rattle.pl_value.specs.Answers.{Reads}
 use Rattle.pl_value.specs.Frames.{Row, rows_of}

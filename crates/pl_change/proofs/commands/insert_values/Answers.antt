@@ -3,7 +3,7 @@ use Rattle.pl_change.proofs.Turns.{front, same_reads, turn_ends, turn_goes, turn
 use Rattle.pl_change.specs.Changes.{Progress, adds, adds_values, progress}
 use Rattle.pl_change.specs.Running.{setting_of}
 use Rattle.pl_journal.proofs.OneTable.{only_same, only_then}
-use Rattle.pl_query.specs.Rows.{in_turn}
+use Rattle.pl_inside.specs.pl_query.Rows.{in_turn}
 use Rattle.pl_resolved.specs.declared.expression.RExpr.{RExpr}
 use Rattle.pl_value.specs.Frames.{Row}
 use Rattle.pl_change.proofs.commands.insert_values.Goals as goal

@@ -5,7 +5,7 @@ use Rattle.pl_change.specs.Running.{AreEnough}
 use Rattle.pl_change.specs.Changes.{Progress, ids, progress, updates}
 use Rattle.pl_change.specs.Running.{reached, setting_of}
 use Rattle.pl_journal.proofs.OneTable.{only_same}
-use Rattle.pl_query.specs.Rows.{in_turn}
+use Rattle.pl_inside.specs.pl_query.Rows.{in_turn}
 use Rattle.pl_resolved.specs.declared.expression.RExpr.{RExpr}
 use Rattle.pl_value.specs.Answers.{Reads}
 use Rattle.pl_value.specs.Frames.{rows_of}

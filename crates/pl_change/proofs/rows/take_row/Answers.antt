@@ -3,7 +3,7 @@ use Rattle.pl_change.specs.Changes.{progress}
 use Rattle.pl_journal.proofs.OneTable.{only_same}
 use Rattle.pl_tables.specs.Named.{on_table}
 use Rattle.pl_tables.specs.Rows.{removed}
-use Rattle.pl_undo.specs.Database.{Database}
+use Rattle.pl_journal.specs.pl_undo.Database.{Database}
 use Rattle.pl_value.specs.Frames.{Row}
 use Rattle.pl_value.specs.Reading.{got}
 use Rattle.pl_change.proofs.rows.take_row.Goals as goal

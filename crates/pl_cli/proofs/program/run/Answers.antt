@@ -1,7 +1,7 @@
 use Rattle.std.proofs.Common.{◌≡◌, ◌⊎◌, ◌∙◌, ◌∷◌, ◌++◌, [], Ok, Err, List, ℕ, inl, inr, ⊎_elim, map, ap, refl, sym, subst, string_bytes}
 use Rattle.pl_undo.specs.Database.{Database}
-use Rattle.pl_world.specs.Opening.{opens}
-use Rattle.pl_world.specs.Trace.{Event, Said}
+use Rattle.pl_session.specs.pl_world.Opening.{opens}
+use Rattle.pl_session.specs.pl_world.Trace.{Event, Said}
 use Rattle.pl_keeper.specs.Batches.{Damage, batches, spare_area}
 use Rattle.pl_session.specs.Spare.{KeepsArea}
 use Rattle.pl_session.specs.Starts.{HasStartCause}
@@ -17,9 +17,9 @@ use Rattle.pl_cli.specs.Printed.{damage_line, refusal_line}
 use Rattle.pl_cli.specs.declared.ending.Ending.TheVariants.{Whole, AtError, Memory, Refused, Source}
 use Rattle.pl_cli.specs.declared.ending.Ending.{Ending}
 use Rattle.pl_disk.specs.Disk.{Runs}
-use Rattle.pl_world.specs.Covered.{AlongFrom}
+use Rattle.pl_session.specs.pl_world.Covered.{AlongFrom}
 use Rattle.pl_session.specs.Traces.{IsTrace}
-use Rattle.pl_world.specs.Sessions.{new_session}
+use Rattle.pl_session.specs.pl_world.Sessions.{new_session}
 use Rattle.pl_base.specs.Image.{Image}
 use Rattle.pl_cli.specs.Runs.{AttachesScript, HasCause, IsEarly, OnlySays, Over}
 use Rattle.pl_cli.specs.Script.{IsRefusedAt, script_text}

@@ -1,7 +1,7 @@
 use Rattle.std.proofs.Common.{◌∙◌, ap, subst}
 use Rattle.pl_base.specs.Image.{Image}
 use Rattle.pl_keeper.specs.Batches.{spare_area}
-use Rattle.pl_world.specs.Opening.{opens}
+use Rattle.pl_session.specs.pl_world.Opening.{opens}
 use Rattle.pl_session.specs.Spare.{KeepsArea}
 use Rattle.pl_cli.proofs.Covering.{not_settled}
 use Rattle.pl_cli.proofs.Runs.{area_attached, area_not_attached, attached_start, attached_untouched}

@@ -2,11 +2,11 @@ use Rattle.std.proofs.Common.{subst}
 use Rattle.pl_command.proofs.Alone.{broken, ready, still_idle, stop_is, unsettled}
 use Rattle.pl_command.proofs.answers.command.Goals as goal
 use Rattle.pl_command.specs.declared.answers.Answer.{Answer}
-use Rattle.pl_engine.proofs.Joins.{answered, lawful}
-use Rattle.pl_engine.specs.Answers.{Stopped}
-use Rattle.pl_engine.specs.Engines.{world}
-use Rattle.pl_engine.specs.Texts.{do_bodies}
-use Rattle.pl_engine.specs.declared.stop.Stop.{Stop}
+use Rattle.pl_control.proofs.of_pl_engine.Joins.{answered, lawful}
+use Rattle.pl_control.specs.pl_engine.Answers.{Stopped}
+use Rattle.pl_control.specs.pl_engine.Engines.{world}
+use Rattle.pl_control.specs.pl_engine.Texts.{do_bodies}
+use Rattle.pl_control.specs.pl_engine.declared.stop.Stop.{Stop}
 use Rattle.pl_world.specs.Sessions.{command_done}
 use Rattle.pl_world.specs.Statements.{runner_for}
 

@@ -2,8 +2,8 @@ use Rattle.std.proofs.Common.{◌∙◌, ap, refl}
 use Rattle.pl_command.proofs.Alone.{same_answer}
 use Rattle.pl_command.proofs.answers.finish.Goals as goal
 use Rattle.pl_command.specs.Lines.{lines_of}
-use Rattle.pl_engine.proofs.Joins.{before, lawful}
-use Rattle.pl_engine.specs.Engines.{world}
+use Rattle.pl_control.proofs.of_pl_engine.Joins.{before, lawful}
+use Rattle.pl_control.specs.pl_engine.Engines.{world}
 
 pub returns-in_default-clause-is : goal.returns-in_default-clause-is
 returns-in_default-clause-is g c = before (lawful g.P.Port g.met.P.Port.none g.met.P.Port.joins g.met.P.Port.rises) refl

@@ -2,10 +2,10 @@ use Rattle.std.proofs.Common.{Err, Result, ap, refl, subst, sym}
 use Rattle.pl_command.proofs.Resolves.{found, refused}
 use Rattle.pl_command.proofs.changing.alter.Goals as goal
 use Rattle.pl_command.specs.Shown.{made_change}
-use Rattle.pl_engine.proofs.Joins.{answered, becomes, before, lawful}
-use Rattle.pl_engine.specs.Engines.{world}
-use Rattle.pl_engine.specs.Texts.{do_bodies}
-use Rattle.pl_targets.specs.declared.change.RChange.{RChange}
+use Rattle.pl_control.proofs.of_pl_engine.Joins.{answered, becomes, before, lawful}
+use Rattle.pl_control.specs.pl_engine.Engines.{world}
+use Rattle.pl_control.specs.pl_engine.Texts.{do_bodies}
+use Rattle.pl_altering.specs.pl_targets.declared.change.RChange.{RChange}
 use Rattle.pl_typing.specs.Resolved.{Gives}
 use Rattle.pl_typing.specs.declared.fail.ScopeFail.{ScopeFail}
 use Rattle.pl_world.specs.Resolving.{changing}

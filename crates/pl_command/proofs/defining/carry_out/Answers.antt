@@ -2,8 +2,8 @@ use Rattle.std.proofs.Common.{◌∙◌, ap, subst, sym}
 use Rattle.pl_command.proofs.Defined.{as_reply, defined_done, defined_stopped}
 use Rattle.pl_command.proofs.defining.carry_out.Goals as goal
 use Rattle.pl_control.specs.Noted.{defined}
-use Rattle.pl_engine.specs.Answers.{Done, Stopped}
-use Rattle.pl_engine.specs.Engines.{world}
+use Rattle.pl_control.specs.pl_engine.Answers.{Done, Stopped}
+use Rattle.pl_control.specs.pl_engine.Engines.{world}
 use Rattle.pl_world.specs.Meaning.{tag_of}
 use Rattle.pl_print.specs.declared.reply.Tag.{Tag}
 use Rattle.pl_reading.specs.Defining.{stored_by}

@@ -1,10 +1,10 @@
 use Rattle.std.proofs.Common.{subst}
 use Rattle.pl_command.proofs.Bodies.{ran_done, ran_stopped}
 use Rattle.pl_command.proofs.running.call_it.Goals as goal
-use Rattle.pl_engine.proofs.Joins.{lawful}
-use Rattle.pl_engine.specs.Answers.{Done, Stopped}
-use Rattle.pl_engine.specs.Engines.{world}
-use Rattle.pl_engine.specs.Texts.{do_bodies}
+use Rattle.pl_control.proofs.of_pl_engine.Joins.{lawful}
+use Rattle.pl_control.specs.pl_engine.Answers.{Done, Stopped}
+use Rattle.pl_control.specs.pl_engine.Engines.{world}
+use Rattle.pl_control.specs.pl_engine.Texts.{do_bodies}
 use Rattle.pl_print.specs.declared.reply.Tag.TheVariants.{Call}
 use Rattle.pl_world.specs.Errors.{Spot}
 use Rattle.pl_world.specs.Statements.{runner_for}

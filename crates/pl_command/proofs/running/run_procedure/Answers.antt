@@ -3,9 +3,9 @@ use Rattle.pl_command.proofs.Resolves.{found, refused}
 use Rattle.pl_command.proofs.running.run_procedure.Goals as goal
 use Rattle.pl_control.specs.Called.{ResolvesTo}
 use Rattle.pl_control.specs.declared.arguments.Procedure.{Procedure}
-use Rattle.pl_engine.proofs.Joins.{answered, before, lawful}
-use Rattle.pl_engine.specs.Engines.{world}
-use Rattle.pl_engine.specs.Texts.{do_bodies}
+use Rattle.pl_control.proofs.of_pl_engine.Joins.{answered, before, lawful}
+use Rattle.pl_control.specs.pl_engine.Engines.{world}
+use Rattle.pl_control.specs.pl_engine.Texts.{do_bodies}
 use Rattle.pl_print.specs.declared.reply.Tag.TheVariants.{Call}
 use Rattle.pl_typing.specs.declared.fail.ScopeFail.{ScopeFail}
 use Rattle.pl_world.specs.Resolving.{Calling, calling}

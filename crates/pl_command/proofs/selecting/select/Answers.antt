@@ -2,9 +2,9 @@ use Rattle.std.proofs.Common.{Err, List, Result, ap, refl, subst, sym}
 use Rattle.pl_command.proofs.Resolves.{found, refused}
 use Rattle.pl_command.proofs.selecting.select.Goals as goal
 use Rattle.pl_command.specs.Shown.{selected}
-use Rattle.pl_engine.proofs.Joins.{answered, becomes, before, lawful}
-use Rattle.pl_engine.specs.Engines.{world}
-use Rattle.pl_engine.specs.Texts.{do_bodies}
+use Rattle.pl_control.proofs.of_pl_engine.Joins.{answered, becomes, before, lawful}
+use Rattle.pl_control.specs.pl_engine.Engines.{world}
+use Rattle.pl_control.specs.pl_engine.Texts.{do_bodies}
 use Rattle.pl_resolved.specs.declared.query.RQuery.{RQuery}
 use Rattle.pl_typing.specs.Resolved.{Gives}
 use Rattle.pl_typing.specs.declared.fail.ScopeFail.{ScopeFail}

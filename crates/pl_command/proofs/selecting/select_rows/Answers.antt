@@ -1,13 +1,13 @@
 use Rattle.std.proofs.Common.{List, Ok, Err, Result, refl, subst, sym}
 use Rattle.pl_base.specs.declared.fail.Fail.{Fail}
-use Rattle.pl_calling.specs.Reading.{rows_read}
+use Rattle.pl_control.specs.pl_calling.Reading.{rows_read}
 use Rattle.pl_command.proofs.Using.{reads_off, reads_on, reads_stop}
 use Rattle.pl_command.proofs.selecting.select_rows.Goals as goal
 use Rattle.pl_command.specs.Shown.{selected, shows}
-use Rattle.pl_engine.proofs.Joins.{acted, before, lawful, refused, stopped}
-use Rattle.pl_engine.specs.Answers.{Done, Stopped}
-use Rattle.pl_engine.specs.Engines.{Quiet, world}
-use Rattle.pl_engine.specs.Texts.{do_bodies}
+use Rattle.pl_control.proofs.of_pl_engine.Joins.{acted, before, lawful, refused, stopped}
+use Rattle.pl_control.specs.pl_engine.Answers.{Done, Stopped}
+use Rattle.pl_control.specs.pl_engine.Engines.{Quiet, world}
+use Rattle.pl_control.specs.pl_engine.Texts.{do_bodies}
 use Rattle.pl_world.specs.Selection.{heads_of}
 use Rattle.pl_resolved.specs.declared.query.Head.{Head}
 use Rattle.pl_value.specs.Frames.{Row}

@@ -1,7 +1,7 @@
 use Rattle.std.proofs.Common.{◌∙◌, sym}
 use Rattle.pl_command.proofs.Alone.{kept_off, kept_on, none_of, same_stop, some_of, undone, undone_kept}
 use Rattle.pl_command.proofs.settling.settle.Goals as goal
-use Rattle.pl_engine.proofs.Joins.{lawful}
+use Rattle.pl_control.proofs.of_pl_engine.Joins.{lawful}
 use Rattle.pl_world.specs.declared.outcome.Outcome.{Outcome}
 use Rattle.pl_world.specs.declared.session.Reply.{Reply}
 

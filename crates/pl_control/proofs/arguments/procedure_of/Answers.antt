@@ -2,7 +2,7 @@ use Rattle.std.proofs.Common.{◌∙◌, ap, refl}
 use Rattle.pl_control.proofs.Named.{is_function, is_procedure, lost, not_fitted}
 use Rattle.pl_control.proofs.arguments.procedure_of.Goals as goal
 use Rattle.pl_names.specs.Routines.{types_of}
-use Rattle.pl_world.specs.Resolving.{procedure}
+use Rattle.pl_engine.specs.pl_world.Resolving.{procedure}
 use Rattle.std.specs.Prelude.{Some}
 
 pub returns-in_err-types : goal.returns-in_err-types

@@ -1,15 +1,15 @@
 use Rattle.std.proofs.Common.{◌≡◌, arith, false, length, nat_lt, subst, sym, true}
 use Rattle.std.proofs.lemmas.Bool.Decides.{nat_tests}
-use Rattle.pl_calling.proofs.Entered.{called_is, too_deep}
+use Rattle.pl_asking.proofs.of_pl_calling.Entered.{called_is, too_deep}
 use Rattle.pl_control.proofs.callees.run_called.Goals as goal
 use Rattle.pl_engine.proofs.Joins.{acted, becomes, lawful, start}
 use Rattle.pl_engine.specs.Answers.{Answers}
 use Rattle.pl_engine.specs.Engines.{world}
 use Rattle.pl_engine.specs.Texts.{do_bodies}
-use Rattle.pl_world.specs.Calls.{called, most_calls}
-use Rattle.pl_world.specs.Statements.{runner_for}
-use Rattle.pl_world.specs.World.{Ran}
-use Rattle.pl_world.specs.declared.outcome.Outcome.{Outcome}
+use Rattle.pl_engine.specs.pl_world.Calls.{called, most_calls}
+use Rattle.pl_engine.specs.pl_world.Statements.{runner_for}
+use Rattle.pl_engine.specs.pl_world.World.{Ran}
+use Rattle.pl_engine.specs.pl_world.declared.outcome.Outcome.{Outcome}
 
 pub returns-then-calls-lt-MOST_CALLS-clause-is : goal.returns-then-calls-lt-MOST_CALLS-clause-is
 returns-then-calls-lt-MOST_CALLS-clause-is g c = λ callee is.

@@ -1,10 +1,10 @@
 use Rattle.std.proofs.Common.{subst, sym, true, refl}
-use Rattle.pl_calling.proofs.Entered.{called_done, called_keeps}
+use Rattle.pl_asking.proofs.of_pl_calling.Entered.{called_done, called_keeps}
 use Rattle.pl_control.proofs.Bodies.{body_lost, body_stopped}
 use Rattle.pl_control.proofs.callees.run_in_call.Goals as goal
 use Rattle.pl_control.specs.Called.{found_of}
 use Rattle.pl_engine.proofs.Joins.{before, lawful, refused}
-use Rattle.pl_world.specs.World.{World}
+use Rattle.pl_engine.specs.pl_world.World.{World}
 
 pub returns-in_err-enter-clause-is : goal.returns-in_err-enter-clause-is
 returns-in_err-enter-clause-is g c = λ callee is. refused _ _ _ c.from_residual.ensures (before (lawful g.P.Port g.met.P.Port.none g.met.P.Port.joins g.met.P.Port.rises) refl)

@@ -1,17 +1,17 @@
 use Rattle.std.proofs.Common.{List, Option, None, Some, refl, subst, sym, true}
 use Rattle.pl_base.specs.declared.value.Value.{Value}
 use Rattle.pl_bodies.specs.declared.statement.Body.{Body}
-use Rattle.pl_calling.proofs.Entered.{none_called}
-use Rattle.pl_calling.specs.Called.{CallsIt, IsCallee}
-use Rattle.pl_calling.specs.declared.callee.Found.{Found}
+use Rattle.pl_asking.proofs.of_pl_calling.Entered.{none_called}
+use Rattle.pl_asking.specs.pl_calling.Called.{CallsIt, IsCallee}
+use Rattle.pl_asking.specs.pl_calling.declared.callee.Found.{Found}
 use Rattle.pl_control.proofs.calls.call_by_name.Goals as goal
 use Rattle.pl_engine.proofs.Joins.{before, lawful, refused}
 use Rattle.pl_engine.specs.Answers.{Answers}
 use Rattle.pl_engine.specs.Engines.{world}
 use Rattle.pl_engine.specs.Texts.{do_bodies}
-use Rattle.pl_world.specs.Statements.{runner_for}
-use Rattle.pl_world.specs.World.{Ran}
-use Rattle.pl_world.specs.declared.outcome.Outcome.{Outcome}
+use Rattle.pl_engine.specs.pl_world.Statements.{runner_for}
+use Rattle.pl_engine.specs.pl_world.World.{Ran}
+use Rattle.pl_engine.specs.pl_world.declared.outcome.Outcome.{Outcome}
 
 pub returns-in_err-found-clause-is : goal.returns-in_err-found-clause-is
 returns-in_err-found-clause-is g c = refused _ _ _ c.from_residual.ensures (before (lawful g.P.Port g.met.P.Port.none g.met.P.Port.joins g.met.P.Port.rises) refl)

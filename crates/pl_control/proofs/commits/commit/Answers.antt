@@ -4,9 +4,9 @@ use Rattle.pl_control.proofs.commits.commit.Goals as goal
 use Rattle.pl_engine.proofs.Joins.{acted, becomes, lawful, start}
 use Rattle.pl_engine.specs.Answers.{Answers}
 use Rattle.pl_engine.specs.Engines.{world}
-use Rattle.pl_world.specs.Transactions.{commits}
-use Rattle.pl_world.specs.World.{Ran}
-use Rattle.pl_world.specs.declared.outcome.Outcome.{Outcome}
+use Rattle.pl_engine.specs.pl_world.Transactions.{commits}
+use Rattle.pl_engine.specs.pl_world.World.{Ran}
+use Rattle.pl_engine.specs.pl_world.declared.outcome.Outcome.{Outcome}
 
 pub commit-requires-clause-unmarked : goal.commit-requires-clause-unmarked
 commit-requires-clause-unmarked g c = free (world c.args.engine.now) (sym c.may_commit.ensures ∙ c.if-may_commit.true)

@@ -6,8 +6,8 @@ use Rattle.pl_engine.proofs.Joins.{answered, before, lawful}
 use Rattle.pl_engine.specs.Changing.{Defined}
 use Rattle.pl_engine.specs.Engines.{world}
 use Rattle.pl_typing.specs.declared.fail.ScopeFail.{ScopeFail}
-use Rattle.pl_world.specs.Commands.{defining}
-use Rattle.pl_world.specs.World.{World}
+use Rattle.pl_engine.specs.pl_world.Commands.{defining}
+use Rattle.pl_engine.specs.pl_world.World.{World}
 
 pub note-requires : goal.note-requires
 note-requires g c = record { fits = subst (λ (w : World). g.P.Port.fits w.last c.args.port.now) (sym c.in-Ok.ensures.is.2) c.requires.fits }

@@ -9,7 +9,7 @@ use Rattle.pl_engine.specs.Answers.{Answers}
 use Rattle.pl_engine.specs.Engines.{world}
 use Rattle.pl_reading.specs.Defining.{stored_by}
 use Rattle.pl_tree.specs.declared.command.Definition.{Definition}
-use Rattle.pl_world.specs.Commands.{defining}
+use Rattle.pl_engine.specs.pl_world.Commands.{defining}
 
 pub carry_out-requires-clause-alike : goal.carry_out-requires-clause-alike
 carry_out-requires-clause-alike g c = c.requires.alike ∙ can_be_stored c.args.definition.now c.args.text (ap (λ (t : List ℕ). is_define_text t) (sym c.as_bytes.ensures) ∙ sym c.is_define_text.ensures ∙ c.if-not-is_define_text.false)

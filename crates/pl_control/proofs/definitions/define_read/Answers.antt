@@ -7,7 +7,7 @@ use Rattle.pl_engine.proofs.Joins.{lawful}
 use Rattle.pl_engine.specs.Answers.{Answers}
 use Rattle.pl_engine.specs.Engines.{world}
 use Rattle.pl_tree.specs.declared.command.Definition.{Definition}
-use Rattle.pl_world.specs.Commands.{defining}
+use Rattle.pl_engine.specs.pl_world.Commands.{defining}
 
 pub returns-in-None-clause-is : goal.returns-in-None-clause-is
 returns-in-None-clause-is g c =

@@ -7,7 +7,7 @@ use Rattle.pl_engine.specs.Answers.{Done, Stopped}
 use Rattle.pl_engine.specs.Engines.{world}
 use Rattle.pl_reading.specs.Computed.{definition_in}
 use Rattle.pl_tree.specs.declared.command.Definition.{Definition}
-use Rattle.pl_world.specs.declared.outcome.Outcome.TheVariants as outcome
+use Rattle.pl_engine.specs.pl_world.declared.outcome.Outcome.TheVariants as outcome
 
 pub returns-in_err-definition-clause-is : goal.returns-in_err-definition-clause-is
 returns-in_err-definition-clause-is g c = refused _ _ _ c.from_residual.ensures (before (lawful g.P.Port g.met.P.Port.none g.met.P.Port.joins g.met.P.Port.rises) c.in_err-definition.ensures.err)

@@ -7,10 +7,10 @@ use Rattle.pl_engine.proofs.Joins.{acted, answered, becomes, before, lawful, sta
 use Rattle.pl_engine.specs.Engines.{world}
 use Rattle.pl_engine.specs.Texts.{do_bodies}
 use Rattle.pl_typing.specs.declared.fail.ScopeFail.{ScopeFail}
-use Rattle.pl_world.specs.Errors.{resolved}
-use Rattle.pl_world.specs.Resolving.{Calling, calling}
-use Rattle.pl_world.specs.Statements.{runner_for}
-use Rattle.pl_world.specs.Transactions.{procedure_called}
+use Rattle.pl_engine.specs.pl_world.Errors.{resolved}
+use Rattle.pl_engine.specs.pl_world.Resolving.{Calling, calling}
+use Rattle.pl_engine.specs.pl_world.Statements.{runner_for}
+use Rattle.pl_engine.specs.pl_world.Transactions.{procedure_called}
 
 pub returns-in-Ok-clause-is : goal.returns-in-Ok-clause-is
 returns-in-Ok-clause-is g c =

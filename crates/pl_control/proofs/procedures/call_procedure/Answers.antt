@@ -1,7 +1,7 @@
 use Rattle.std.proofs.Common.{List, Ok, Err, Result, subst}
 use Rattle.pl_base.specs.declared.fail.Fail.{Fail}
 use Rattle.pl_base.specs.declared.value.Value.{Value}
-use Rattle.pl_calling.specs.Ends.{settles}
+use Rattle.pl_asking.specs.pl_calling.Ends.{settles}
 use Rattle.pl_control.proofs.Invoking.{failed, invoked_is, returned, stopped_early, stopped_late}
 use Rattle.pl_control.proofs.procedures.call_procedure.Goals as goal
 use Rattle.pl_engine.proofs.Joins.{lawful, refused}
@@ -9,11 +9,11 @@ use Rattle.pl_engine.specs.Answers.{Done, Stopped}
 use Rattle.pl_engine.specs.Engines.{world}
 use Rattle.pl_engine.specs.Texts.{do_bodies}
 use Rattle.pl_resolved.specs.declared.expression.RExpr.{RExpr}
-use Rattle.pl_world.specs.Statements.{runner_for}
-use Rattle.pl_world.specs.Transactions.{arguments_over}
-use Rattle.pl_world.specs.World.{Ran}
-use Rattle.pl_world.specs.declared.outcome.Outcome.{Outcome}
-use Rattle.pl_world.specs.declared.outcome.Outcome.TheVariants as outcome
+use Rattle.pl_engine.specs.pl_world.Statements.{runner_for}
+use Rattle.pl_engine.specs.pl_world.Transactions.{arguments_over}
+use Rattle.pl_engine.specs.pl_world.World.{Ran}
+use Rattle.pl_engine.specs.pl_world.declared.outcome.Outcome.{Outcome}
+use Rattle.pl_engine.specs.pl_world.declared.outcome.Outcome.TheVariants as outcome
 
 pub returns-in_err-read-clause-is : goal.returns-in_err-read-clause-is
 returns-in_err-read-clause-is g c = λ callee names.

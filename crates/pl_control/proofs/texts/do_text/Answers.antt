@@ -8,9 +8,9 @@ use Rattle.pl_engine.specs.Engines.{world}
 use Rattle.pl_engine.specs.Texts.{do_bodies}
 use Rattle.pl_typing.specs.Resolved.{Gives}
 use Rattle.pl_typing.specs.declared.fail.ScopeFail.{ScopeFail}
-use Rattle.pl_world.specs.Statements.{runner_for}
-use Rattle.pl_world.specs.Transactions.{body_read, does, unread}
-use Rattle.pl_world.specs.declared.outcome.Outcome.TheVariants as outcome
+use Rattle.pl_engine.specs.pl_world.Statements.{runner_for}
+use Rattle.pl_engine.specs.pl_world.Transactions.{body_read, does, unread}
+use Rattle.pl_engine.specs.pl_world.declared.outcome.Outcome.TheVariants as outcome
 
 pub returns-in-Ok-clause-is : goal.returns-in-Ok-clause-is
 returns-in-Ok-clause-is g c =

@@ -6,8 +6,8 @@ use Rattle.pl_engine.proofs.Joins.{before, lawful, refused}
 use Rattle.pl_engine.specs.Answers.{Done, Stopped}
 use Rattle.pl_engine.specs.Engines.{world}
 use Rattle.pl_engine.specs.Texts.{do_bodies}
-use Rattle.pl_world.specs.Calls.{called, nameless}
-use Rattle.pl_world.specs.Statements.{runner_for}
+use Rattle.pl_engine.specs.pl_world.Calls.{called, nameless}
+use Rattle.pl_engine.specs.pl_world.Statements.{runner_for}
 
 pub returns-in_err-declared-clause-is : goal.returns-in_err-declared-clause-is
 returns-in_err-declared-clause-is g c = refused _ _ _ c.from_residual.ensures (before (lawful g.P.Port g.met.P.Port.none g.met.P.Port.joins g.met.P.Port.rises) refl)

@@ -1,10 +1,10 @@
 use Rattle.std.proofs.Common.{◌∙◌, Result, Ok, Err, ap, subst, sym}
 use Rattle.pl_bodies.specs.declared.statement.Body.{Body}
-use Rattle.pl_body_rules.specs.Heading.{routine}
+use Rattle.pl_routine.specs.pl_body_rules.Heading.{routine}
 use Rattle.pl_define.specs.Bodies.{body_in}
 use Rattle.pl_define.proofs.Bodies.{failing, told}
-use Rattle.pl_typing.specs.Resolved.{Gives, Resolved}
-use Rattle.pl_typing.specs.declared.fail.ScopeFail.{ScopeFail}
+use Rattle.pl_routine_ddl.specs.pl_typing.Resolved.{Gives, Resolved}
+use Rattle.pl_routine_ddl.specs.pl_typing.declared.fail.ScopeFail.{ScopeFail}
 use Rattle.pl_define.proofs.body.read_text.Goals as goal
 
 pub returns-in-Ok : goal.returns-in-Ok

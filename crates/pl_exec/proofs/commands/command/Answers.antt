@@ -1,6 +1,6 @@
-use Rattle.pl_engine.proofs.Joins.{acted, answered, lawful}
-use Rattle.pl_engine.specs.Engines.{world}
-use Rattle.pl_engine.specs.Texts.{do_bodies}
+use Rattle.pl_control.proofs.of_pl_engine.Joins.{acted, answered, lawful}
+use Rattle.pl_control.specs.pl_engine.Engines.{world}
+use Rattle.pl_control.specs.pl_engine.Texts.{do_bodies}
 use Rattle.pl_exec.proofs.Acts.{begun, of_call, of_change, of_transaction}
 use Rattle.pl_exec.proofs.commands.command.Goals as goal
 use Rattle.pl_world.specs.Statements.{command_form, runner_for}

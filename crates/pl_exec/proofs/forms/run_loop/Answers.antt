@@ -1,7 +1,7 @@
 use Rattle.pl_bodies.specs.declared.statement.Loop.{out-Loop}
-use Rattle.pl_engine.proofs.Joins.{acted, lawful}
-use Rattle.pl_engine.specs.Engines.{world}
-use Rattle.pl_engine.specs.Texts.{do_bodies}
+use Rattle.pl_control.proofs.of_pl_engine.Joins.{acted, lawful}
+use Rattle.pl_control.specs.pl_engine.Engines.{world}
+use Rattle.pl_control.specs.pl_engine.Texts.{do_bodies}
 use Rattle.pl_exec.proofs.Acts.{begun, of_rows}
 use Rattle.pl_exec.proofs.forms.run_loop.Goals as goal
 use Rattle.pl_world.specs.Statements.{one_loop, runner_for}

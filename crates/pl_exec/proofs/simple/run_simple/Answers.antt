@@ -1,7 +1,7 @@
 use Rattle.std.proofs.Common.{refl}
-use Rattle.pl_engine.proofs.Joins.{acted, before, ended, lawful, refused}
-use Rattle.pl_engine.specs.Engines.{world}
-use Rattle.pl_engine.specs.Texts.{do_bodies}
+use Rattle.pl_control.proofs.of_pl_engine.Joins.{acted, before, ended, lawful, refused}
+use Rattle.pl_control.specs.pl_engine.Engines.{world}
+use Rattle.pl_control.specs.pl_engine.Texts.{do_bodies}
 use Rattle.pl_exec.proofs.Acts.{begun, of_again, of_diagnostics, of_null, of_rollback, of_stacked, of_waiting}
 use Rattle.pl_exec.proofs.simple.run_simple.Goals as goal
 use Rattle.pl_world.specs.Statements.{runner_for, simple_form}

@@ -1,7 +1,7 @@
 use Rattle.std.proofs.Common.{◌-◌}
-use Rattle.pl_engine.proofs.Joins.{acted, answered, becomes, lawful}
-use Rattle.pl_engine.specs.Engines.{world}
-use Rattle.pl_engine.specs.Texts.{do_bodies}
+use Rattle.pl_control.proofs.of_pl_engine.Joins.{acted, answered, becomes, lawful}
+use Rattle.pl_control.specs.pl_engine.Engines.{world}
+use Rattle.pl_control.specs.pl_engine.Texts.{do_bodies}
 use Rattle.pl_exec.proofs.Within.{behind_step, of_statement, without_step}
 use Rattle.pl_exec.proofs.tasks.statement.Goals as goal
 use Rattle.pl_world.specs.Running.{statement}

@@ -2,8 +2,8 @@ use Rattle.pl_bodies.specs.declared.statement.Block.{out-Block}
 use Rattle.pl_engine.proofs.Joins.{lawful, refused, before}
 use Rattle.pl_flow.proofs.Overs.{block_done, block_here, ran_on, ran_stopped}
 use Rattle.pl_flow.proofs.blocks.block.Goals as goal
-use Rattle.pl_world.specs.Blocks.{block_left}
-use Rattle.pl_world.specs.Statements.{runner_for}
+use Rattle.pl_engine.specs.pl_world.Blocks.{block_left}
+use Rattle.pl_engine.specs.pl_world.Statements.{runner_for}
 use Rattle.std.proofs.Common.{refl, arith}
 use Rattle.pl_engine.specs.Texts.{do_bodies}
 

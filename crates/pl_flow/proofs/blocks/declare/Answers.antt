@@ -1,7 +1,7 @@
 use Rattle.pl_engine.proofs.Joins.{lawful, refused}
 use Rattle.pl_flow.proofs.Lists.{declared_end, declared_here, declared_next, next_off, next_on, next_stopped}
 use Rattle.pl_flow.proofs.blocks.declare.Goals as goal
-use Rattle.pl_world.specs.Statements.{runner_for}
+use Rattle.pl_engine.specs.pl_world.Statements.{runner_for}
 use Rattle.std.proofs.Common.{◌∙◌, true, false}
 use Rattle.pl_engine.specs.Texts.{do_bodies}
 

@@ -3,8 +3,8 @@ use Rattle.pl_engine.specs.Answers.{Partway}
 use Rattle.pl_engine.specs.Engines.{kept, world}
 use Rattle.pl_engine.specs.Texts.{do_bodies}
 use Rattle.pl_flow.proofs.blocks.declare.Given as goal
-use Rattle.pl_world.specs.Blocks.{all_declared}
-use Rattle.pl_world.specs.Statements.{runner_for}
+use Rattle.pl_engine.specs.pl_world.Blocks.{all_declared}
+use Rattle.pl_engine.specs.pl_world.Statements.{runner_for}
 
 abbrev pub invariant-loop-declaration : goal.invariant-loop-declaration
 invariant-loop-declaration g l = record {

@@ -2,7 +2,7 @@ use Rattle.pl_engine.proofs.Joins.{lawful, refused, answered}
 use Rattle.pl_flow.proofs.Lists.{next_off, next_on, next_stopped}
 use Rattle.pl_flow.proofs.Overs.{statements_here, statements_next, within_here}
 use Rattle.pl_flow.proofs.blocks.within.Goals as goal
-use Rattle.pl_world.specs.Statements.{runner_for}
+use Rattle.pl_engine.specs.pl_world.Statements.{runner_for}
 use Rattle.pl_engine.specs.Texts.{do_bodies}
 
 pub returns-in_err-other-clause-is : goal.returns-in_err-other-clause-is

@@ -3,8 +3,8 @@ use Rattle.pl_engine.specs.Answers.{Partway}
 use Rattle.pl_engine.specs.Engines.{kept, world}
 use Rattle.pl_engine.specs.Texts.{do_bodies}
 use Rattle.pl_flow.proofs.branching.branches.Given as goal
-use Rattle.pl_world.specs.Control.{branches}
-use Rattle.pl_world.specs.Statements.{runner_for}
+use Rattle.pl_engine.specs.pl_world.Control.{branches}
+use Rattle.pl_engine.specs.pl_world.Statements.{runner_for}
 
 abbrev pub invariant-loop-branch : goal.invariant-loop-branch
 invariant-loop-branch g l = record {

@@ -5,9 +5,9 @@ use Rattle.pl_engine.specs.Engines.{world}
 use Rattle.pl_engine.specs.Texts.{do_bodies}
 use Rattle.pl_flow.proofs.Lists.{all_none}
 use Rattle.pl_flow.proofs.branching.otherwise.Goals as goal
-use Rattle.pl_world.specs.Control.{else_of}
-use Rattle.pl_world.specs.Running.{all}
-use Rattle.pl_world.specs.Statements.{runner_for}
+use Rattle.pl_engine.specs.pl_world.Control.{else_of}
+use Rattle.pl_engine.specs.pl_world.Running.{all}
+use Rattle.pl_engine.specs.pl_world.Statements.{runner_for}
 
 pub returns-in-None-clause-is : goal.returns-in-None-clause-is
 returns-in-None-clause-is g c =

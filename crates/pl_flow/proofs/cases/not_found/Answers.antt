@@ -4,8 +4,8 @@ use Rattle.pl_engine.proofs.Joins.{acted, becomes, lawful, start}
 use Rattle.pl_engine.specs.Engines.{world}
 use Rattle.pl_engine.specs.Texts.{do_bodies}
 use Rattle.pl_flow.proofs.cases.not_found.Goals as goal
-use Rattle.pl_world.specs.Control.{not_found}
-use Rattle.pl_world.specs.Statements.{runner_for}
+use Rattle.pl_engine.specs.pl_world.Control.{not_found}
+use Rattle.pl_engine.specs.pl_world.Statements.{runner_for}
 
 pub returns-in-None-clause-is : goal.returns-in-None-clause-is
 returns-in-None-clause-is g c =

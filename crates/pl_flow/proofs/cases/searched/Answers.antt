@@ -6,8 +6,8 @@ use Rattle.pl_flow.proofs.Lists.{arm_here, arm_next, arms_end}
 use Rattle.pl_flow.proofs.cases.searched.Goals as goal
 use Rattle.pl_flow.specs.Answered.{truth_of}
 use Rattle.pl_bodies.specs.declared.statement.Statement.{Statement}
-use Rattle.pl_world.specs.Running.{all}
-use Rattle.pl_world.specs.Statements.{runner_for}
+use Rattle.pl_engine.specs.pl_world.Running.{all}
+use Rattle.pl_engine.specs.pl_world.Statements.{runner_for}
 use Rattle.std.proofs.Common.{◌∙◌, ap, sym, rules, true, false, List}
 
 pub returns-in_err-answer-clause-is : goal.returns-in_err-answer-clause-is

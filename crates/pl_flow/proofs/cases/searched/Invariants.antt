@@ -3,8 +3,8 @@ use Rattle.pl_engine.specs.Answers.{Partway}
 use Rattle.pl_engine.specs.Engines.{kept, world}
 use Rattle.pl_engine.specs.Texts.{do_bodies}
 use Rattle.pl_flow.proofs.cases.searched.Given as goal
-use Rattle.pl_world.specs.Control.{searched}
-use Rattle.pl_world.specs.Statements.{runner_for}
+use Rattle.pl_engine.specs.pl_world.Control.{searched}
+use Rattle.pl_engine.specs.pl_world.Statements.{runner_for}
 
 abbrev pub invariant-loop-arm : goal.invariant-loop-arm
 invariant-loop-arm g l = record {

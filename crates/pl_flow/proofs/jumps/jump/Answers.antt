@@ -5,8 +5,8 @@ use Rattle.pl_flow.proofs.Asked.{asked_off, asked_on, asked_stopped}
 use Rattle.pl_flow.proofs.Opened.{jump_done, jump_here, jump_next}
 use Rattle.pl_flow.proofs.jumps.jump.Goals as goal
 use Rattle.pl_flow.specs.Answered.{truth_of}
-use Rattle.pl_world.specs.Statements.{runner_for}
-use Rattle.pl_world.specs.World.{ends}
+use Rattle.pl_engine.specs.pl_world.Statements.{runner_for}
+use Rattle.pl_engine.specs.pl_world.World.{ends}
 use Rattle.std.proofs.Common.{ap, sym, refl, rules, true, false}
 
 pub returns-in_default-clause-is : goal.returns-in_default-clause-is

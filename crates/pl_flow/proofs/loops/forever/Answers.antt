@@ -3,8 +3,8 @@ use Rattle.pl_flow.proofs.Asked.{asked_off, asked_on, asked_stopped}
 use Rattle.pl_flow.proofs.Repeats.{forever_end, forever_here, further_turns, later, loop_start}
 use Rattle.pl_flow.proofs.loops.forever.Goals as goal
 use Rattle.pl_flow.specs.Answered.{going_of}
-use Rattle.pl_world.specs.Control.{forever}
-use Rattle.pl_world.specs.Statements.{runner_for}
+use Rattle.pl_engine.specs.pl_world.Control.{forever}
+use Rattle.pl_engine.specs.pl_world.Statements.{runner_for}
 use Rattle.std.proofs.Common.{◌∙◌, refl, rules, true, false}
 use Rattle.pl_engine.specs.Texts.{do_bodies}
 

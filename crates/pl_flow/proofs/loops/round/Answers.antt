@@ -3,7 +3,7 @@ use Rattle.pl_flow.proofs.Asked.{asked_off, asked_on, asked_stopped}
 use Rattle.pl_flow.proofs.Opened.{round_next, tested_here}
 use Rattle.pl_flow.proofs.loops.round.Goals as goal
 use Rattle.pl_flow.specs.Answered.{truth_of}
-use Rattle.pl_world.specs.Statements.{runner_for}
+use Rattle.pl_engine.specs.pl_world.Statements.{runner_for}
 use Rattle.std.proofs.Common.{refl, rules, true, false}
 use Rattle.pl_engine.specs.Texts.{do_bodies}
 

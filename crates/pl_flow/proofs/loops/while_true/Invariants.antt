@@ -3,8 +3,8 @@ use Rattle.pl_engine.specs.Answers.{Partway}
 use Rattle.pl_engine.specs.Engines.{kept, world}
 use Rattle.pl_engine.specs.Texts.{do_bodies}
 use Rattle.pl_flow.proofs.loops.while_true.Given as goal
-use Rattle.pl_world.specs.Control.{loop, tested, turns}
-use Rattle.pl_world.specs.Statements.{runner_for}
+use Rattle.pl_engine.specs.pl_world.Control.{loop, tested, turns}
+use Rattle.pl_engine.specs.pl_world.Statements.{runner_for}
 
 abbrev pub invariant-loop-turn : goal.invariant-loop-turn
 invariant-loop-turn g l = record {

@@ -5,11 +5,11 @@ use Rattle.pl_flow.proofs.Asked.{asked_off, asked_on, asked_stopped}
 use Rattle.pl_flow.proofs.Opened.{by_next, over_next, stride_here, stride_one}
 use Rattle.pl_flow.proofs.numbers.between.Goals as goal
 use Rattle.pl_flow.specs.Answered.{number_of}
-use Rattle.pl_world.specs.Control.{positive}
+use Rattle.pl_engine.specs.pl_world.Control.{positive}
 use Rattle.std.proofs.lemmas.Int.{to_z-of_z}
 use Rattle.std.specs.Int.{w32}
 use Rattle.std.specs.Prelude.{FitsSigned}
-use Rattle.pl_world.specs.Statements.{runner_for}
+use Rattle.pl_engine.specs.pl_world.Statements.{runner_for}
 use Rattle.std.proofs.Common.{◌∙◌, ap, sym, rules, pos, ℤ, of_z, to_z}
 
 pub returns-in_default-clause-is : goal.returns-in_default-clause-is

@@ -6,13 +6,13 @@ use Rattle.pl_flow.proofs.Repeats.{each_end, each_here, each_later, later}
 use Rattle.pl_flow.proofs.numbers.each.Goals as goal
 use Rattle.pl_flow.specs.Answered.{going_of}
 use Rattle.pl_flow.specs.Ranges.{numbers_in}
-use Rattle.pl_world.specs.Control.{each}
+use Rattle.pl_engine.specs.pl_world.Control.{each}
 use Rattle.pl_base.specs.declared.value.Value.TheVariants.{Int}
-use Rattle.pl_world.specs.Variables.{with_value}
+use Rattle.pl_engine.specs.pl_world.Variables.{with_value}
 use Rattle.std.proofs.lemmas.Int.{to_z-of_z}
 use Rattle.std.specs.Int.{w32}
 use Rattle.std.specs.Prelude.{FitsSigned}
-use Rattle.pl_world.specs.Statements.{runner_for}
+use Rattle.pl_engine.specs.pl_world.Statements.{runner_for}
 use Rattle.std.proofs.Common.{◌∙◌, ap, refl, rules, arith, ℤ}
 
 pub loop-number-init : goal.loop-number-init

@@ -4,8 +4,8 @@ use Rattle.pl_engine.specs.Engines.{kept, world}
 use Rattle.pl_engine.specs.Texts.{do_bodies}
 use Rattle.pl_flow.proofs.numbers.each.Given as goal
 use Rattle.pl_flow.specs.Ranges.{AreIntegers, numbers_in}
-use Rattle.pl_world.specs.Control.{each}
-use Rattle.pl_world.specs.Statements.{runner_for}
+use Rattle.pl_engine.specs.pl_world.Control.{each}
+use Rattle.pl_engine.specs.pl_world.Statements.{runner_for}
 
 abbrev pub invariant-loop-number : goal.invariant-loop-number
 invariant-loop-number g l = record {

@@ -8,7 +8,7 @@ use Rattle.pl_flow.specs.Answered.{number_of}
 use Rattle.std.proofs.lemmas.Int.{to_z-of_z}
 use Rattle.std.specs.Int.{w32}
 use Rattle.std.specs.Prelude.{FitsSigned}
-use Rattle.pl_world.specs.Statements.{runner_for}
+use Rattle.pl_engine.specs.pl_world.Statements.{runner_for}
 use Rattle.std.proofs.Common.{◌∙◌, ap, sym, rules, ℤ, of_z, to_z}
 
 pub returns-in_err-answer-clause-is : goal.returns-in_err-answer-clause-is

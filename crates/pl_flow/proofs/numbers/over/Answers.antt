@@ -2,8 +2,8 @@ use Rattle.pl_engine.proofs.Joins.{lawful, refused, acted, before}
 use Rattle.pl_flow.proofs.Overs.{over_here, ran_on, ran_stopped}
 use Rattle.pl_flow.proofs.numbers.over.Goals as goal
 use Rattle.pl_flow.specs.Ranges.{numbers_in}
-use Rattle.pl_world.specs.Control.{for_left}
-use Rattle.pl_world.specs.Statements.{runner_for}
+use Rattle.pl_engine.specs.pl_world.Control.{for_left}
+use Rattle.pl_engine.specs.pl_world.Statements.{runner_for}
 use Rattle.std.proofs.Common.{refl, arith}
 use Rattle.pl_engine.specs.Texts.{do_bodies}
 

@@ -5,10 +5,10 @@ use Rattle.pl_flow.proofs.Counted.{are_integers_of, as_integers}
 use Rattle.pl_flow.proofs.Opened.{over_next, positive_here, positive_not}
 use Rattle.pl_flow.proofs.numbers.stepping.Goals as goal
 use Rattle.pl_flow.specs.Ranges.{numbers_in}
-use Rattle.pl_world.specs.Control.{numbers, over_numbers}
+use Rattle.pl_engine.specs.pl_world.Control.{numbers, over_numbers}
 use Rattle.std.proofs.lemmas.Int.{to_z-of_z}
 use Rattle.std.specs.Int.{w32}
-use Rattle.pl_world.specs.Statements.{runner_for}
+use Rattle.pl_engine.specs.pl_world.Statements.{runner_for}
 use Rattle.std.proofs.Common.{◌≡◌, ◌∙◌, ap, sym, rules, ℤ, List, of_z, to_z}
 
 pub returns-then-by-le0-clause-is : goal.returns-then-by-le0-clause-is

@@ -1,7 +1,7 @@
 use Rattle.pl_engine.proofs.Joins.{lawful, refused, acted, step, stepless}
 use Rattle.pl_flow.proofs.Repeats.{turn_done, turn_start, turn_stopped, turned}
 use Rattle.pl_flow.proofs.turns.turn.Goals as goal
-use Rattle.pl_world.specs.Statements.{runner_for}
+use Rattle.pl_engine.specs.pl_world.Statements.{runner_for}
 use Rattle.pl_engine.specs.Texts.{do_bodies}
 
 pub returns-then-not-take_step-clause-is : goal.returns-then-not-take_step-clause-is

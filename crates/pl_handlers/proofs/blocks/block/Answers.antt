@@ -1,11 +1,11 @@
 use Rattle.pl_bodies.specs.declared.statement.Block.{out-Block}
-use Rattle.pl_engine.proofs.Joins.{lawful, refused, before}
+use Rattle.pl_flow.proofs.of_pl_engine.Joins.{lawful, refused, before}
 use Rattle.pl_flow.proofs.Overs.{block_done, block_here, ran_on, ran_stopped}
 use Rattle.pl_handlers.proofs.blocks.block.Goals as goal
-use Rattle.pl_world.specs.Blocks.{block_left}
-use Rattle.pl_world.specs.Statements.{runner_for}
+use Rattle.pl_conditions.specs.pl_world.Blocks.{block_left}
+use Rattle.pl_conditions.specs.pl_world.Statements.{runner_for}
 use Rattle.std.proofs.Common.{refl, arith}
-use Rattle.pl_engine.specs.Texts.{do_bodies}
+use Rattle.pl_flow.specs.pl_engine.Texts.{do_bodies}
 
 pub returns-in_err-open-clause-is : goal.returns-in_err-open-clause-is
 returns-in_err-open-clause-is g c =

@@ -1,9 +1,9 @@
-use Rattle.pl_engine.proofs.Joins.{lawful, refused, answered}
+use Rattle.pl_flow.proofs.of_pl_engine.Joins.{lawful, refused, answered}
 use Rattle.pl_flow.proofs.Lists.{next_off, next_on, next_stopped}
 use Rattle.pl_flow.proofs.Overs.{statements_next, within_here}
 use Rattle.pl_handlers.proofs.blocks.within.Goals as goal
-use Rattle.pl_world.specs.Statements.{runner_for}
-use Rattle.pl_engine.specs.Texts.{do_bodies}
+use Rattle.pl_conditions.specs.pl_world.Statements.{runner_for}
+use Rattle.pl_flow.specs.pl_engine.Texts.{do_bodies}
 
 pub returns-in_err-other-clause-is : goal.returns-in_err-other-clause-is
 returns-in_err-other-clause-is g c =

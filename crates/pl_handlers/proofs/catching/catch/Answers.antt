@@ -1,9 +1,9 @@
 use Rattle.pl_bodies.specs.declared.statement.Block.{out-Block}
-use Rattle.pl_engine.proofs.Joins.{lawful}
-use Rattle.pl_engine.specs.Handling.{kept_at}
+use Rattle.pl_flow.proofs.of_pl_engine.Joins.{lawful}
+use Rattle.pl_flow.specs.pl_engine.Handling.{kept_at}
 use Rattle.pl_handlers.proofs.Handled.{unfailed}
-use Rattle.pl_world.specs.Statements.{runner_for}
-use Rattle.pl_engine.specs.Texts.{do_bodies}
+use Rattle.pl_conditions.specs.pl_world.Statements.{runner_for}
+use Rattle.pl_flow.specs.pl_engine.Texts.{do_bodies}
 use Rattle.pl_handlers.proofs.catching.catch.Goals as goal
 
 pub returns-in_default-clause-is : goal.returns-in_default-clause-is

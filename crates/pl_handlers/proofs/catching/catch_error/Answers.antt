@@ -2,12 +2,12 @@ use Rattle.std.proofs.Common.{◌≡◌, ◌∙◌, List, None, Option, Some, ap
 use Rattle.pl_bodies.specs.declared.statement.Block.{out-Block}
 use Rattle.pl_bodies.specs.declared.statement.Handler.{Handler}
 use Rattle.pl_bodies.specs.declared.statement.Statement.{Statement}
-use Rattle.pl_engine.proofs.Joins.{answered, lawful}
-use Rattle.pl_engine.specs.Handling.{kept_at}
+use Rattle.pl_flow.proofs.of_pl_engine.Joins.{answered, lawful}
+use Rattle.pl_flow.specs.pl_engine.Handling.{kept_at}
 use Rattle.pl_handlers.proofs.Handled.{caught_here, uncaught}
-use Rattle.pl_world.specs.Blocks.{handler_for}
-use Rattle.pl_world.specs.Statements.{runner_for}
-use Rattle.pl_engine.specs.Texts.{do_bodies}
+use Rattle.pl_conditions.specs.pl_world.Blocks.{handler_for}
+use Rattle.pl_conditions.specs.pl_world.Statements.{runner_for}
+use Rattle.pl_flow.specs.pl_engine.Texts.{do_bodies}
 use Rattle.pl_handlers.proofs.catching.catch_error.Goals as goal
 
 pub returns-in-Some-clause-is : goal.returns-in-Some-clause-is

@@ -1,11 +1,11 @@
 use Rattle.std.proofs.Common.{arith, refl}
-use Rattle.pl_engine.proofs.Joins.{acted, before, lawful, refused}
-use Rattle.pl_engine.specs.Handling.{kept_at}
+use Rattle.pl_flow.proofs.of_pl_engine.Joins.{acted, before, lawful, refused}
+use Rattle.pl_flow.specs.pl_engine.Handling.{kept_at}
 use Rattle.pl_flow.proofs.Overs.{ran_on, ran_stopped}
 use Rattle.pl_handlers.proofs.Handled.{handler_here}
-use Rattle.pl_world.specs.Blocks.{handled_end}
-use Rattle.pl_world.specs.Statements.{runner_for}
-use Rattle.pl_engine.specs.Texts.{do_bodies}
+use Rattle.pl_conditions.specs.pl_world.Blocks.{handled_end}
+use Rattle.pl_conditions.specs.pl_world.Statements.{runner_for}
+use Rattle.pl_flow.specs.pl_engine.Texts.{do_bodies}
 use Rattle.pl_handlers.proofs.catching.handle.Goals as goal
 
 pub returns-in_err-begin_handler-clause-is : goal.returns-in_err-begin_handler-clause-is

@@ -1,15 +1,15 @@
 use Rattle.std.proofs.Common.{◌≡◌, arith, refl, sym}
 use Rattle.std.proofs.lemmas.Result.{on_ok_weaker}
 use Rattle.pl_bodies.specs.declared.statement.Block.{out-Block}
-use Rattle.pl_engine.proofs.Joins.{answered, becomes, before, lawful, refused}
-use Rattle.pl_engine.specs.Engines.{kept, world}
-use Rattle.pl_engine.specs.Handling.{kept_at, with_marks}
-use Rattle.pl_engine.specs.Texts.{do_bodies}
+use Rattle.pl_flow.proofs.of_pl_engine.Joins.{answered, becomes, before, lawful, refused}
+use Rattle.pl_flow.specs.pl_engine.Engines.{kept, world}
+use Rattle.pl_flow.specs.pl_engine.Handling.{kept_at, with_marks}
+use Rattle.pl_flow.specs.pl_engine.Texts.{do_bodies}
 use Rattle.pl_flow.proofs.Overs.{ran_on, ran_stopped}
 use Rattle.pl_handlers.proofs.Handled.{caught_alike, mark_goes, mark_keeps, mark_lives, not_empty, protected_here, unprotected_here}
 use Rattle.pl_handlers.proofs.protecting.protected.Goals as goal
-use Rattle.pl_world.specs.Blocks.{caught}
-use Rattle.pl_world.specs.Statements.{runner_for}
+use Rattle.pl_conditions.specs.pl_world.Blocks.{caught}
+use Rattle.pl_conditions.specs.pl_world.Statements.{runner_for}
 
 pub returns-then-is_empty-clause-is : goal.returns-then-is_empty-clause-is
 returns-then-is_empty-clause-is g c =

@@ -1,7 +1,7 @@
 use Rattle.std.proofs.Common.{◌≡◌, ◌∙◌, ℕ, List, Option, Some, ap, sym}
 use Rattle.pl_base.specs.declared.operation.Op.TheVariants.{Define}
 use Rattle.pl_journal.proofs.Opening.{define_done, rest_done}
-use Rattle.pl_reading.specs.Computed.{definition_in}
+use Rattle.pl_define.specs.pl_reading.Computed.{definition_in}
 use Rattle.pl_tree.specs.declared.command.Definition.{Definition}
 use Rattle.pl_undo.specs.Database.{Database}
 use Rattle.pl_journal.proofs.applying.apply_define.Goals as goal

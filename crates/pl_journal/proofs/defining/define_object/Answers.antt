@@ -7,7 +7,7 @@ use Rattle.pl_journal.specs.Definitions.{Behind, behind}
 use Rattle.pl_journal.proofs.CarriedOut.{as_noticed, define_kept}
 use Rattle.pl_journal.proofs.Opening.{is_text_of}
 use Rattle.pl_journal.proofs.Writes.{refused_kept}
-use Rattle.pl_typing.specs.Resolved.{Resolved}
+use Rattle.pl_define.specs.pl_typing.Resolved.{Resolved}
 use Rattle.pl_journal.proofs.defining.define_object.Goals as goal
 
 pub spell_define-requires : goal.spell_define-requires

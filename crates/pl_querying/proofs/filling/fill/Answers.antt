@@ -1,7 +1,7 @@
 use Rattle.std.proofs.Common.{◌≡◌, ◌∙◌, ℕ, arith, ap, length}
 use Rattle.std.proofs.lemmas.Result.{IfOk-weaker}
 use Rattle.std.specs.Prelude.{min}
-use Rattle.pl_engine.specs.Engines.{world}
+use Rattle.pl_asking.specs.pl_engine.Engines.{world}
 use Rattle.pl_querying.proofs.Filled.{after_counting}
 use Rattle.pl_querying.proofs.filling.fill.Goals as goal
 use Rattle.pl_world.specs.Commands.{into_one}

@@ -1,10 +1,10 @@
 use Rattle.std.proofs.Common.{◌∙◌, ℕ, List, Result, ap, subst}
 use Rattle.pl_base.specs.declared.fail.Fail.{Fail}
-use Rattle.pl_calling.specs.Reading.{rows_read}
-use Rattle.pl_engine.proofs.Joins.{lawful, refused}
-use Rattle.pl_engine.specs.Answers.{Done, Stopped}
-use Rattle.pl_engine.specs.Engines.{world}
-use Rattle.pl_engine.specs.Texts.{do_bodies}
+use Rattle.pl_asking.specs.pl_calling.Reading.{rows_read}
+use Rattle.pl_asking.proofs.of_pl_engine.Joins.{lawful, refused}
+use Rattle.pl_asking.specs.pl_engine.Answers.{Done, Stopped}
+use Rattle.pl_asking.specs.pl_engine.Engines.{world}
+use Rattle.pl_asking.specs.pl_engine.Texts.{do_bodies}
 use Rattle.pl_querying.proofs.Counted.{refused_done, refusing, failed, refused_is, stops}
 use Rattle.pl_querying.proofs.refusing.refuse_rows.Goals as goal
 use Rattle.pl_value.specs.Frames.{Row}

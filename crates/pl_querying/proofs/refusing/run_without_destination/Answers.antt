@@ -1,8 +1,8 @@
 use Rattle.std.proofs.Common.{◌∙◌, Err, List, Result, ap, refl, subst, sym}
 use Rattle.pl_asking.proofs.Acts.{resolved_err, resolved_ok}
-use Rattle.pl_engine.proofs.Joins.{acted, answered, becomes, before, lawful, start}
-use Rattle.pl_engine.specs.Engines.{world}
-use Rattle.pl_engine.specs.Texts.{do_bodies}
+use Rattle.pl_asking.proofs.of_pl_engine.Joins.{acted, answered, becomes, before, lawful, start}
+use Rattle.pl_asking.specs.pl_engine.Engines.{world}
+use Rattle.pl_asking.specs.pl_engine.Texts.{do_bodies}
 use Rattle.pl_querying.proofs.refusing.run_without_destination.Goals as goal
 use Rattle.pl_resolved.specs.declared.query.RQuery.{RQuery}
 use Rattle.pl_typing.specs.Resolved.{Gives}

@@ -1,11 +1,11 @@
 use Rattle.std.proofs.Common.{Err, List, Ok, Result, refl, subst}
 use Rattle.pl_base.specs.declared.fail.Fail.{Fail}
-use Rattle.pl_calling.specs.Reading.{rows_read}
-use Rattle.pl_engine.proofs.Joins.{before, lawful, refused, stopped}
-use Rattle.pl_engine.specs.Answers.{Done, Stopped}
-use Rattle.pl_engine.specs.Engines.{Quiet, world}
-use Rattle.pl_engine.specs.Texts.{do_bodies}
-use Rattle.pl_engine.specs.declared.stop.Stop.TheVariants.{Memory}
+use Rattle.pl_asking.specs.pl_calling.Reading.{rows_read}
+use Rattle.pl_asking.proofs.of_pl_engine.Joins.{before, lawful, refused, stopped}
+use Rattle.pl_asking.specs.pl_engine.Answers.{Done, Stopped}
+use Rattle.pl_asking.specs.pl_engine.Engines.{Quiet, world}
+use Rattle.pl_asking.specs.pl_engine.Texts.{do_bodies}
+use Rattle.pl_asking.specs.pl_engine.declared.stop.Stop.TheVariants.{Memory}
 use Rattle.pl_querying.proofs.Counted.{failed, filled, filling, on_rows, selected_is, stops}
 use Rattle.pl_querying.proofs.selecting.select.Goals as goal
 use Rattle.pl_resolved.specs.declared.query.RQuery.{RQuery}

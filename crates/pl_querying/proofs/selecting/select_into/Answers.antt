@@ -1,9 +1,9 @@
 use Rattle.std.proofs.Common.{◌≡◌, ◌∙◌, Err, List, Ok, Result, ap, refl, subst, sym}
 use Rattle.pl_asking.proofs.Acts.{resolved_err, resolved_ok}
 use Rattle.pl_bodies.specs.declared.simple.Target.{Target}
-use Rattle.pl_engine.proofs.Joins.{acted, answered, becomes, before, lawful, start}
-use Rattle.pl_engine.specs.Engines.{world}
-use Rattle.pl_engine.specs.Texts.{do_bodies}
+use Rattle.pl_asking.proofs.of_pl_engine.Joins.{acted, answered, becomes, before, lawful, start}
+use Rattle.pl_asking.specs.pl_engine.Engines.{world}
+use Rattle.pl_asking.specs.pl_engine.Texts.{do_bodies}
 use Rattle.pl_querying.proofs.selecting.select_into.Goals as goal
 use Rattle.pl_typing.specs.Resolved.{Gives}
 use Rattle.pl_typing.specs.declared.fail.ScopeFail.{ScopeFail}

@@ -1,8 +1,8 @@
 use Rattle.std.proofs.Common.{Bool, false, refl, rules, true}
-use Rattle.pl_engine.proofs.Joins.{answered, ended, lawful, refused}
-use Rattle.pl_engine.specs.Texts.{do_bodies}
-use Rattle.pl_flow.proofs.Asked.{asked_off, asked_on, asked_stopped}
-use Rattle.pl_flow.specs.Answered.{truth_of}
+use Rattle.pl_asking.proofs.of_pl_engine.Joins.{answered, ended, lawful, refused}
+use Rattle.pl_asking.specs.pl_engine.Texts.{do_bodies}
+use Rattle.pl_asking.proofs.of_pl_flow.Asked.{asked_off, asked_on, asked_stopped}
+use Rattle.pl_asking.specs.pl_flow.Answered.{truth_of}
 use Rattle.pl_raise.proofs.Told.{assert_way}
 use Rattle.pl_raise.proofs.asserting.assert.Goals as goal
 use Rattle.pl_world.specs.Raising.{unless_true}

@@ -1,7 +1,7 @@
 use Rattle.std.proofs.Common.{◌≡◌, None, Option, ap, refl, rules, subst}
-use Rattle.pl_engine.proofs.Joins.{acted, becomes, before, lawful, refused, start}
-use Rattle.pl_engine.specs.Engines.{Quiet, world}
-use Rattle.pl_engine.specs.Texts.{do_bodies}
+use Rattle.pl_asking.proofs.of_pl_engine.Joins.{acted, becomes, before, lawful, refused, start}
+use Rattle.pl_asking.specs.pl_engine.Engines.{Quiet, world}
+use Rattle.pl_asking.specs.pl_engine.Texts.{do_bodies}
 use Rattle.pl_raise.proofs.Found.{found_off, found_on, found_stopped}
 use Rattle.pl_raise.proofs.Told.{fail_next, fail_way}
 use Rattle.pl_raise.proofs.asserting.fail.Goals as goal

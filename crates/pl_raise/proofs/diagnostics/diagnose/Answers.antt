@@ -2,7 +2,7 @@ use Rattle.std.proofs.Common.{◌∙◌, List, map, refl, subst, ℕ}
 use Rattle.pl_asking.proofs.Acts.{each_end, each_off, each_on, quiet_start}
 use Rattle.pl_asking.specs.Values.{put_in}
 use Rattle.pl_base.specs.declared.value.Value.TheVariants.{Text}
-use Rattle.pl_engine.specs.Engines.{Quiet, world}
+use Rattle.pl_asking.specs.pl_engine.Engines.{Quiet, world}
 use Rattle.pl_raise.proofs.diagnostics.diagnose.Goals as goal
 use Rattle.pl_world.specs.Assigning.{put_each, stacked}
 

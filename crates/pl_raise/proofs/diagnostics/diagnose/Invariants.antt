@@ -1,6 +1,6 @@
 use Rattle.std.proofs.Common.{◌≡◌, drop, map}
 use Rattle.pl_asking.proofs.Acts.{Quietly}
-use Rattle.pl_engine.specs.Engines.{kept, world}
+use Rattle.pl_asking.specs.pl_engine.Engines.{kept, world}
 use Rattle.pl_raise.proofs.diagnostics.diagnose.Given as goal
 use Rattle.pl_world.specs.Assigning.{put_each, stacked}
 

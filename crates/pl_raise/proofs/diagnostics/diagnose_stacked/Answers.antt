@@ -1,6 +1,6 @@
 use Rattle.std.proofs.Common.{◌∙◌, sym}
 use Rattle.pl_asking.proofs.Acts.{quiet_if, quiet_is}
-use Rattle.pl_engine.specs.Engines.{world}
+use Rattle.pl_asking.specs.pl_engine.Engines.{world}
 use Rattle.pl_raise.proofs.Newest.{stacked_first, stacked_none}
 use Rattle.pl_raise.proofs.diagnostics.diagnose_stacked.Goals as goal
 

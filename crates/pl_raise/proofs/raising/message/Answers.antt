@@ -1,5 +1,5 @@
 use Rattle.std.proofs.Common.{◌∙◌, ap, subst}
-use Rattle.pl_engine.specs.Engines.{world}
+use Rattle.pl_asking.specs.pl_engine.Engines.{world}
 use Rattle.pl_raise.proofs.raising.message.Goals as goal
 use Rattle.pl_raise.specs.Finding.{FindsHere}
 use Rattle.pl_typing.specs.Resolved.{Resolved}

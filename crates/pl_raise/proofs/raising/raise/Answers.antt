@@ -1,9 +1,9 @@
 use Rattle.std.proofs.Common.{List, ap, sym}
 use Rattle.pl_bodies.specs.declared.simple.RaiseOption.{RaiseOption}
-use Rattle.pl_engine.proofs.Joins.{answered, becomes, lawful, refused}
-use Rattle.pl_engine.specs.Answers.{Partway}
-use Rattle.pl_engine.specs.Engines.{world}
-use Rattle.pl_engine.specs.Texts.{do_bodies}
+use Rattle.pl_asking.proofs.of_pl_engine.Joins.{answered, becomes, lawful, refused}
+use Rattle.pl_asking.specs.pl_engine.Answers.{Partway}
+use Rattle.pl_asking.specs.pl_engine.Engines.{world}
+use Rattle.pl_asking.specs.pl_engine.Texts.{do_bodies}
 use Rattle.pl_raise.proofs.Found.{fits_found, found_off, found_on, found_stopped, room_found}
 use Rattle.pl_raise.proofs.Told.{options_next, raise_way, report_next}
 use Rattle.pl_raise.proofs.raising.raise.Goals as goal

@@ -1,7 +1,7 @@
 use Rattle.std.proofs.Common.{◌∙◌, List, [], ap, refl, sym}
-use Rattle.pl_engine.proofs.Joins.{becomes, lawful, start}
-use Rattle.pl_engine.specs.Engines.{world}
-use Rattle.pl_engine.specs.Texts.{do_bodies}
+use Rattle.pl_asking.proofs.of_pl_engine.Joins.{becomes, lawful, start}
+use Rattle.pl_asking.specs.pl_engine.Engines.{world}
+use Rattle.pl_asking.specs.pl_engine.Texts.{do_bodies}
 use Rattle.pl_raise.proofs.Found.{fits_there, refused_there, room_there}
 use Rattle.pl_raise.proofs.Told.{arguments_cons, arguments_nil, each_end, each_off, each_on, each_stopped}
 use Rattle.pl_raise.proofs.raising.read_arguments.Goals as goal

@@ -1,7 +1,7 @@
 use Rattle.std.proofs.Common.{◌≡◌, List, [], drop}
-use Rattle.pl_engine.specs.Answers.{Partway}
-use Rattle.pl_engine.specs.Engines.{kept, world}
-use Rattle.pl_engine.specs.Texts.{do_bodies}
+use Rattle.pl_asking.specs.pl_engine.Answers.{Partway}
+use Rattle.pl_asking.specs.pl_engine.Engines.{kept, world}
+use Rattle.pl_asking.specs.pl_engine.Texts.{do_bodies}
 use Rattle.pl_raise.proofs.raising.read_arguments.Given as goal
 use Rattle.pl_raise.specs.Finding.{Next}
 use Rattle.pl_world.specs.Raising.{Text, arguments_told}

@@ -1,9 +1,9 @@
 use Rattle.std.proofs.Common.{◌≡◌, ◌∙◌, ap, refl, rules, subst, sym}
 use Rattle.pl_bodies.specs.declared.simple.Raised.TheVariants as raising
 use Rattle.pl_bodies.specs.declared.simple.Raised.{Raised}
-use Rattle.pl_engine.proofs.Joins.{becomes, before, lawful, start}
-use Rattle.pl_engine.specs.Engines.{world}
-use Rattle.pl_engine.specs.Texts.{do_bodies}
+use Rattle.pl_asking.proofs.of_pl_engine.Joins.{becomes, before, lawful, start}
+use Rattle.pl_asking.specs.pl_engine.Engines.{world}
+use Rattle.pl_asking.specs.pl_engine.Texts.{do_bodies}
 use Rattle.pl_raise.proofs.Found.{refused_there, there_found}
 use Rattle.pl_raise.proofs.raising.read_heading.Goals as goal
 use Rattle.pl_raise.specs.Finding.{Finds}

@@ -1,9 +1,9 @@
 use Rattle.std.proofs.Common.{List, [], ap, refl, sym}
 use Rattle.pl_bodies.specs.declared.simple.Raised.TheVariants as raising
-use Rattle.pl_engine.proofs.Joins.{becomes, before, lawful, stopped}
-use Rattle.pl_engine.specs.Answers.{Partway}
-use Rattle.pl_engine.specs.Engines.{world}
-use Rattle.pl_engine.specs.Texts.{do_bodies}
+use Rattle.pl_asking.proofs.of_pl_engine.Joins.{becomes, before, lawful, stopped}
+use Rattle.pl_asking.specs.pl_engine.Answers.{Partway}
+use Rattle.pl_asking.specs.pl_engine.Engines.{world}
+use Rattle.pl_asking.specs.pl_engine.Texts.{do_bodies}
 use Rattle.pl_raise.proofs.Found.{found_off, found_on, found_stopped, here_off, here_on, refused_there}
 use Rattle.pl_raise.proofs.Told.{format_next, message_next, message_way}
 use Rattle.pl_raise.proofs.raising.read_message.Goals as goal

@@ -1,7 +1,7 @@
 use Rattle.std.proofs.Common.{[], ◌∷◌, subst}
-use Rattle.pl_engine.proofs.Joins.{lawful}
-use Rattle.pl_engine.specs.Engines.{world}
-use Rattle.pl_engine.specs.Texts.{do_bodies}
+use Rattle.pl_asking.proofs.of_pl_engine.Joins.{lawful}
+use Rattle.pl_asking.specs.pl_engine.Engines.{world}
+use Rattle.pl_asking.specs.pl_engine.Texts.{do_bodies}
 use Rattle.pl_raise.proofs.Found.{found_off, found_on, found_stopped, refused_there, there_found}
 use Rattle.pl_raise.proofs.Told.{option_next, option_way}
 use Rattle.pl_raise.proofs.raising.read_option.Goals as goal

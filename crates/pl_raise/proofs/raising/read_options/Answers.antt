@@ -1,8 +1,8 @@
 use Rattle.std.proofs.Common.{◌∙◌, List, refl}
 use Rattle.pl_bodies.specs.declared.simple.RaiseOption.{RaiseOption}
-use Rattle.pl_engine.proofs.Joins.{lawful, start}
-use Rattle.pl_engine.specs.Engines.{world}
-use Rattle.pl_engine.specs.Texts.{do_bodies}
+use Rattle.pl_asking.proofs.of_pl_engine.Joins.{lawful, start}
+use Rattle.pl_asking.specs.pl_engine.Engines.{world}
+use Rattle.pl_asking.specs.pl_engine.Texts.{do_bodies}
 use Rattle.pl_raise.proofs.Found.{fits_there, refused_there, room_there}
 use Rattle.pl_raise.proofs.Told.{options_cons, options_nil, each_end, each_off, each_on, each_stopped}
 use Rattle.pl_raise.proofs.raising.read_options.Goals as goal

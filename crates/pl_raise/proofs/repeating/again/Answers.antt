@@ -1,6 +1,6 @@
 use Rattle.std.proofs.Common.{◌∙◌, refl, sym}
 use Rattle.pl_asking.proofs.Acts.{quiet_is}
-use Rattle.pl_engine.specs.Engines.{world}
+use Rattle.pl_asking.specs.pl_engine.Engines.{world}
 use Rattle.pl_raise.proofs.Newest.{again_first, again_none}
 use Rattle.pl_raise.proofs.repeating.again.Goals as goal
 

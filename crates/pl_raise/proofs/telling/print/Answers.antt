@@ -1,7 +1,7 @@
 use Rattle.std.proofs.Common.{◌∙◌, List, ℕ, refl, subst}
-use Rattle.pl_engine.proofs.Joins.{before, lawful, refused}
-use Rattle.pl_engine.specs.Answers.{Answers}
-use Rattle.pl_engine.specs.Engines.{world}
+use Rattle.pl_asking.proofs.of_pl_engine.Joins.{before, lawful, refused}
+use Rattle.pl_asking.specs.pl_engine.Answers.{Answers}
+use Rattle.pl_asking.specs.pl_engine.Engines.{world}
 use Rattle.pl_raise.proofs.telling.print.Goals as goal
 use Rattle.pl_world.specs.Raising.{printed}
 

@@ -1,8 +1,8 @@
 use Rattle.std.proofs.Common.{ap, refl}
 use Rattle.pl_bodies.specs.declared.simple.Level.{Level}
 use Rattle.pl_bodies.specs.declared.simple.Level.TheVariants as level
-use Rattle.pl_engine.proofs.Joins.{acted, answered, becomes, before, ended, lawful, refused, start}
-use Rattle.pl_engine.specs.Engines.{world}
+use Rattle.pl_asking.proofs.of_pl_engine.Joins.{acted, answered, becomes, before, ended, lawful, refused, start}
+use Rattle.pl_asking.specs.pl_engine.Engines.{world}
 use Rattle.pl_print.specs.declared.reply.Level.TheVariants as print
 use Rattle.pl_raise.proofs.Told.{at_info, at_level, at_none, at_notice, at_warning, lines_told}
 use Rattle.pl_raise.proofs.telling.tell.Goals as goal

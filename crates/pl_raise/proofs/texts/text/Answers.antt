@@ -1,7 +1,7 @@
 use Rattle.std.proofs.Common.{refl, rules}
-use Rattle.pl_engine.proofs.Joins.{before, lawful, stopped}
-use Rattle.pl_engine.specs.Engines.{world}
-use Rattle.pl_engine.specs.Texts.{do_bodies}
+use Rattle.pl_asking.proofs.of_pl_engine.Joins.{before, lawful, stopped}
+use Rattle.pl_asking.specs.pl_engine.Engines.{world}
+use Rattle.pl_asking.specs.pl_engine.Texts.{do_bodies}
 use Rattle.pl_raise.proofs.Found.{refused_there, there_found}
 use Rattle.pl_raise.proofs.Told.{text_off, text_on, text_stopped}
 use Rattle.pl_raise.proofs.texts.text.Goals as goal

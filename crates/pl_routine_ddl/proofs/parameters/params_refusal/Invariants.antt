@@ -1,5 +1,5 @@
 use Rattle.std.proofs.Common.{◌≡◌, length}
-use Rattle.pl_catalog.specs.Objects.{tables_in}
+use Rattle.pl_ddl.specs.pl_catalog.Objects.{tables_in}
 use Rattle.pl_routine_ddl.specs.Routines.{params_refusal}
 use Rattle.pl_routine_ddl.proofs.parameters.params_refusal.Given as goal
 

@@ -1,6 +1,6 @@
 use Rattle.std.proofs.Common.{◌≡◌, length}
 use Rattle.pl_grouping.specs.Words.{same_types}
-use Rattle.pl_names.specs.Routines.{types_of}
+use Rattle.pl_ddl.specs.pl_names.Routines.{types_of}
 use Rattle.pl_routine_ddl.proofs.parameters.same_types.Given as goal
 
 abbrev pub invariant-loop-types : goal.invariant-loop-types

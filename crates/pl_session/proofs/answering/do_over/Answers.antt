@@ -1,12 +1,12 @@
 use Rattle.std.proofs.Common.{refl}
-use Rattle.pl_engine.specs.Texts.{do_bodies}
+use Rattle.pl_port.specs.pl_engine.Texts.{do_bodies}
 use Rattle.pl_port.specs.declared.store.StorePort.{StorePort}
 use Rattle.pl_session.proofs.Told.{command_along, command_cause, command_lines, command_whole}
 use Rattle.pl_session.proofs.Went.{own}
 use Rattle.pl_session.proofs.answering.do_over.Goals as goal
 use Rattle.pl_transactions.specs.Before.{told}
 use Rattle.pl_transactions.specs.State.{session_at}
-use Rattle.pl_world.specs.Sessions.{does_command}
+use Rattle.pl_exec.specs.pl_world.Sessions.{does_command}
 
 pub returns-clause-done : goal.returns-clause-done
 returns-clause-done g c =

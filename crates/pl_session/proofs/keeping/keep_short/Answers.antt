@@ -1,10 +1,10 @@
 use Rattle.std.proofs.Common.{◌∙◌, ℕ, List, sym, ap}
 use Rattle.std.specs.Prelude.{is_some}
 use Rattle.pl_codec.specs.Reading.{operations_of}
-use Rattle.pl_journal.specs.Operation.{apply_payload, empty}
+use Rattle.pl_exec.specs.pl_journal.Operation.{apply_payload, empty}
 use Rattle.pl_session.specs.Steps.{KeepCause}
-use Rattle.pl_engine.specs.declared.stop.Stop.{Stop}
-use Rattle.pl_engine.specs.declared.stop.Stop.TheVariants.{Memory}
+use Rattle.pl_port.specs.pl_engine.declared.stop.Stop.{Stop}
+use Rattle.pl_port.specs.pl_engine.declared.stop.Stop.TheVariants.{Memory}
 use Rattle.pl_session.proofs.Ends.{if_err}
 use Rattle.pl_session.proofs.Kept.{has_next, next_short, no_writes, rewrites, rewritten}
 use Rattle.pl_port.proofs.Opens.{applied, spelled_by}

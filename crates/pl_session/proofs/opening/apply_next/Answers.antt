@@ -1,6 +1,6 @@
 use Rattle.std.proofs.Common.{ℕ, ◌++◌, ◌∷◌, [], Bool, Option, subst, sym}
-use Rattle.pl_journal.specs.Journal.{AllApply}
-use Rattle.pl_journal.specs.Operation.{apply_all}
+use Rattle.pl_exec.specs.pl_journal.Journal.{AllApply}
+use Rattle.pl_exec.specs.pl_journal.Operation.{apply_all}
 use Rattle.pl_keeper.specs.Store.{stored}
 use Rattle.pl_session.specs.Steps.{Reaches}
 use Rattle.pl_session.proofs.Folding.{reaches_more, reaches_no_more, still_stopped}

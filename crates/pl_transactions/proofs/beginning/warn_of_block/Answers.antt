@@ -1,4 +1,4 @@
-use Rattle.pl_engine.proofs.Joins.{lawful}
+use Rattle.pl_command.proofs.of_pl_engine.Joins.{lawful}
 use Rattle.pl_transactions.proofs.Quiet.{unbegun}
 use Rattle.pl_transactions.proofs.Refused.{unwarned, warned}
 use Rattle.pl_transactions.proofs.beginning.warn_of_block.Goals as goal

@@ -1,5 +1,5 @@
-use Rattle.pl_engine.proofs.Joins.{lawful}
-use Rattle.pl_engine.specs.Texts.{do_bodies}
+use Rattle.pl_command.proofs.of_pl_engine.Joins.{lawful}
+use Rattle.pl_command.specs.pl_engine.Texts.{do_bodies}
 use Rattle.pl_transactions.proofs.Equations.{as_back, as_begin, as_commit, as_plain, as_release, as_roll_back, as_save, as_start}
 use Rattle.pl_transactions.proofs.commands.command.Goals as goal
 

@@ -1,8 +1,8 @@
 use Rattle.std.proofs.Common.{ap, subst, sym}
-use Rattle.pl_engine.specs.Database.{Database}
+use Rattle.pl_command.specs.pl_engine.Database.{Database}
 use Rattle.pl_transactions.proofs.Plain.{alone_so, begins_idle, room_for}
 use Rattle.pl_transactions.proofs.doing.alone.Goals as goal
-use Rattle.pl_world.specs.World.{World}
+use Rattle.pl_command.specs.pl_world.World.{World}
 
 pub command-requires-clause-idle : goal.command-requires-clause-idle
 command-requires-clause-idle g c = begins_idle c.args.transaction.now c.args.engine.now c.give_steps.new.self c.args.runner.now.room c.requires.stands c.requires.is c.give_steps.ensures.world

@@ -1,9 +1,9 @@
 use Rattle.std.proofs.Common.{ap, subst, sym}
-use Rattle.pl_engine.proofs.Joins.{lawful}
-use Rattle.pl_engine.specs.Database.{Database}
+use Rattle.pl_command.proofs.of_pl_engine.Joins.{lawful}
+use Rattle.pl_command.specs.pl_engine.Database.{Database}
 use Rattle.pl_transactions.proofs.Plain.{inside_off, inside_so, inside_unsaid, room_for}
 use Rattle.pl_transactions.proofs.doing.inside.Goals as goal
-use Rattle.pl_world.specs.World.{World}
+use Rattle.pl_command.specs.pl_world.World.{World}
 
 pub perform-requires-clause-room : goal.perform-requires-clause-room
 perform-requires-clause-room g c = room_for c.args.engine.now c.give_steps.new.self c.args.runner.now.room c.give_steps.ensures.world

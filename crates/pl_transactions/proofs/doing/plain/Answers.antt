@@ -1,11 +1,11 @@
 use Rattle.std.proofs.Common.{ap, sym}
-use Rattle.pl_engine.proofs.Joins.{lawful}
-use Rattle.pl_engine.specs.Texts.{do_bodies}
+use Rattle.pl_command.proofs.of_pl_engine.Joins.{lawful}
+use Rattle.pl_command.specs.pl_engine.Texts.{do_bodies}
 use Rattle.pl_transactions.proofs.Quiet.{goes_as, goes_quietly}
 use Rattle.pl_transactions.proofs.doing.plain.Goals as goal
 use Rattle.pl_transactions.specs.Before.{told_of_plain}
 use Rattle.pl_transactions.specs.State.{session_at}
-use Rattle.pl_world.specs.Sessions.{does_plain}
+use Rattle.pl_command.specs.pl_world.Sessions.{does_plain}
 
 pub returns-in-Failed : goal.returns-in-Failed
 returns-in-Failed g c =

@@ -1,10 +1,10 @@
 use Rattle.std.proofs.Common.{ap, subst, sym}
-use Rattle.pl_engine.proofs.Joins.{lawful}
-use Rattle.pl_engine.specs.Database.{Database}
+use Rattle.pl_command.proofs.of_pl_engine.Joins.{lawful}
+use Rattle.pl_command.specs.pl_engine.Database.{Database}
 use Rattle.pl_transactions.proofs.Ends.{block_committed, block_cut, wants}
 use Rattle.pl_transactions.proofs.Quiet.{unbegun}
 use Rattle.pl_transactions.proofs.ending.commit_block.Goals as goal
-use Rattle.pl_world.specs.World.{World}
+use Rattle.pl_command.specs.pl_world.World.{World}
 
 pub returns-in_default : goal.returns-in_default
 returns-in_default g c = unbegun (lawful g.P.Port g.met.P.Port.none g.met.P.Port.joins g.met.P.Port.rises) _ _ c.args.engine.now c.args.port.now

@@ -1,10 +1,10 @@
 use Rattle.std.proofs.Common.{ap, refl, sym}
-use Rattle.pl_engine.proofs.Joins.{lawful}
+use Rattle.pl_command.proofs.of_pl_engine.Joins.{lawful}
 use Rattle.pl_transactions.proofs.Quiet.{goes_as, goes_quietly}
 use Rattle.pl_transactions.proofs.ending.end.Goals as goal
 use Rattle.pl_transactions.specs.Before.{told_of_end}
 use Rattle.pl_transactions.specs.State.{session_at}
-use Rattle.pl_world.specs.Sessions.{commits}
+use Rattle.pl_command.specs.pl_world.Sessions.{commits}
 
 pub returns-in-Idle : goal.returns-in-Idle
 returns-in-Idle g c =

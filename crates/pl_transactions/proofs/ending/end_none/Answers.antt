@@ -1,4 +1,4 @@
-use Rattle.pl_engine.proofs.Joins.{lawful}
+use Rattle.pl_command.proofs.of_pl_engine.Joins.{lawful}
 use Rattle.pl_transactions.proofs.Ends.{no_depth, none_cut, none_ended, none_unwarned, wants}
 use Rattle.pl_transactions.proofs.Quiet.{unbegun}
 use Rattle.pl_transactions.proofs.ending.end_none.Goals as goal

@@ -1,10 +1,10 @@
 use Rattle.std.proofs.Common.{ap, refl, sym, ◌∙◌}
-use Rattle.pl_engine.proofs.Joins.{lawful}
+use Rattle.pl_command.proofs.of_pl_engine.Joins.{lawful}
 use Rattle.pl_transactions.proofs.Ends.{idle_so, rolls_by, rolls_told}
 use Rattle.pl_transactions.proofs.Quiet.{goes_as, goes_quietly}
 use Rattle.pl_transactions.proofs.ending.roll_back.Goals as goal
 use Rattle.pl_transactions.specs.State.{session_at}
-use Rattle.pl_world.specs.Sessions.{rolls_back}
+use Rattle.pl_command.specs.pl_world.Sessions.{rolls_back}
 
 pub end_none-requires-clause-is : goal.end_none-requires-clause-is
 end_none-requires-clause-is g c = idle_so c.args.transaction.now.mode (sym c.is_idle.ensures ∙ c.if-is_idle.true)

@@ -2,7 +2,7 @@ use Rattle.std.proofs.Common.{refl}
 use Rattle.pl_transactions.proofs.Saves.{live_at, returned_so}
 use Rattle.pl_transactions.proofs.savepoints.return_at.Goals as goal
 use Rattle.pl_transactions.specs.declared.transaction.Transaction.{Transaction}
-use Rattle.pl_world.specs.declared.session.Mode.TheVariants as mode
+use Rattle.pl_command.specs.pl_world.declared.session.Mode.TheVariants as mode
 
 pub return_to-requires : goal.return_to-requires
 return_to-requires c = record { live = live_at c.args.transaction.now c.args.engine.now c.args.at c.requires.stands c.requires.within }

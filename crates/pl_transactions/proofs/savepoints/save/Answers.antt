@@ -2,7 +2,7 @@ use Rattle.std.proofs.Common.{ap, sym}
 use Rattle.pl_transactions.proofs.Quiet.{quietly_as}
 use Rattle.pl_transactions.proofs.savepoints.save.Goals as goal
 use Rattle.pl_transactions.specs.State.{session_at}
-use Rattle.pl_world.specs.Sessions.{saves}
+use Rattle.pl_command.specs.pl_world.Sessions.{saves}
 
 pub returns-in-Idle : goal.returns-in-Idle
 returns-in-Idle c =

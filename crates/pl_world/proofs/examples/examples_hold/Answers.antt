@@ -1,6 +1,6 @@
 use Rattle.std.proofs.Common.{refl}
 use Rattle.pl_base.specs.Condition.{conditions}
-use Rattle.pl_names.specs.Names.{qualified_means}
+use Rattle.pl_meaning.specs.pl_names.Names.{qualified_means}
 use Rattle.pl_world.proofs.examples.examples_hold.Goals as goal
 use Rattle.pl_world.specs.Blocks.{handling}
 use Rattle.pl_world.specs.Variables.{declared, opened}

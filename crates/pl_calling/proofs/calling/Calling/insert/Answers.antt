@@ -4,7 +4,7 @@ use Rattle.pl_calling.proofs.calling.Calling.insert.Goals as goal
 use Rattle.pl_calling.specs.Standing.{Standing, standing}
 use Rattle.pl_calling.specs.Writing.{WroteIn}
 use Rattle.pl_engine.specs.Engines.{kept, world}
-use Rattle.pl_journal.specs.Writing.{written}
+use Rattle.pl_engine.specs.pl_journal.Writing.{written}
 
 pub invariant_of-self : goal.invariant_of-self
 invariant_of-self g c =

@@ -5,7 +5,7 @@ use Rattle.pl_calling.proofs.calling.Calling.replace.Goals as goal
 use Rattle.pl_calling.specs.Standing.{Standing, standing}
 use Rattle.pl_calling.specs.Writing.{WroteIn}
 use Rattle.pl_engine.specs.Engines.{kept, world}
-use Rattle.pl_journal.specs.Writing.{written}
+use Rattle.pl_engine.specs.pl_journal.Writing.{written}
 use Rattle.pl_tables.specs.Named.{row_named}
 
 pub replace-requires : goal.replace-requires

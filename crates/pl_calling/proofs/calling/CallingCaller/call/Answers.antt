@@ -1,6 +1,6 @@
 use Rattle.pl_calling.proofs.Keeping.{sound_on}
 use Rattle.pl_calling.proofs.calling.CallingCaller.call.Goals as goal
-use Rattle.pl_world.specs.Scripts.{outward}
+use Rattle.pl_engine.specs.pl_world.Scripts.{outward}
 use Rattle.pl_engine.specs.Engines.{kept, stepped_in, world}
 
 pub invariant_of-self : goal.invariant_of-self

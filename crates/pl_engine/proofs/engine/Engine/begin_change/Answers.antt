@@ -2,7 +2,7 @@ use Rattle.std.proofs.Common.{◌≡◌, ◌∙◌, List, ◌∷◌, ap, reverse
 use Rattle.pl_engine.proofs.Turned.{with_last}
 use Rattle.pl_engine.proofs.engine.Engine.begin_change.Goals as goal
 use Rattle.pl_engine.specs.Engines.{kept, world}
-use Rattle.pl_names.specs.Names.{Name}
+use Rattle.pl_world.specs.pl_names.Names.{Name}
 
 pub returns-clause-is : goal.returns-clause-is
 returns-clause-is c =

@@ -1,7 +1,7 @@
 use Rattle.pl_engine.proofs.Redefining.{carried, carried_kept}
 use Rattle.pl_engine.proofs.engine.Engine.carry_out.Goals as goal
 use Rattle.pl_engine.specs.Engines.{world}
-use Rattle.pl_journal.specs.Definitions.{redefined}
+use Rattle.pl_world.specs.pl_journal.Definitions.{redefined}
 
 pub returns-clause-is : goal.returns-clause-is
 returns-clause-is c =

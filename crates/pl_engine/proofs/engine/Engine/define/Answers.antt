@@ -2,8 +2,8 @@ use Rattle.std.proofs.Common.{◌∙◌, Option, ap, sym}
 use Rattle.pl_engine.proofs.Redefining.{checks}
 use Rattle.pl_engine.proofs.engine.Engine.define.Goals as goal
 use Rattle.pl_engine.specs.Engines.{world}
-use Rattle.pl_journal.specs.Definitions.{redefined}
-use Rattle.pl_names.specs.Names.{Name}
+use Rattle.pl_world.specs.pl_journal.Definitions.{redefined}
+use Rattle.pl_world.specs.pl_names.Names.{Name}
 use Rattle.pl_world.specs.Commands.{is_changing}
 
 pub refuse-requires-clause-in_use : goal.refuse-requires-clause-in_use

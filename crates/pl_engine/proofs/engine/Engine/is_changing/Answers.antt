@@ -3,7 +3,7 @@ use Rattle.std.specs.List.{list_any}
 use Rattle.std.specs.Prelude.{bytes_eq}
 use Rattle.pl_engine.proofs.Turned.{changing_turned}
 use Rattle.pl_engine.proofs.engine.Engine.is_changing.Goals as goal
-use Rattle.pl_names.specs.Names.{Name}
+use Rattle.pl_world.specs.pl_names.Names.{Name}
 use Rattle.pl_world.specs.Commands.{is_changing}
 
 pub returns-in-Some : goal.returns-in-Some

@@ -4,7 +4,7 @@ use Rattle.pl_engine.proofs.Redefining.{checks, in_use, kept_back, left, live, l
 use Rattle.pl_engine.proofs.engine.Engine.refuse.Goals as goal
 use Rattle.pl_engine.specs.Changing.{Defined}
 use Rattle.pl_engine.specs.Engines.{world}
-use Rattle.pl_journal.specs.Definitions.{redefined}
+use Rattle.pl_world.specs.pl_journal.Definitions.{redefined}
 use Rattle.pl_typing.specs.declared.fail.ScopeFail.{ScopeFail}
 use Rattle.pl_world.specs.Commands.{checked, defining}
 use Rattle.pl_world.specs.World.{World}

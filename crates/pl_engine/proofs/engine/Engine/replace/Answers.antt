@@ -2,7 +2,7 @@ use Rattle.std.proofs.Common.{Some}
 use Rattle.pl_engine.proofs.Writes.{stays_kept, wrote}
 use Rattle.pl_engine.proofs.engine.Engine.replace.Goals as goal
 use Rattle.pl_engine.specs.Engines.{world}
-use Rattle.pl_journal.specs.Writing.{written}
+use Rattle.pl_world.specs.pl_journal.Writing.{written}
 
 pub returns-clause-is : goal.returns-clause-is
 returns-clause-is c =

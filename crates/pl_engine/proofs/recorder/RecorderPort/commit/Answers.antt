@@ -2,8 +2,8 @@ use Rattle.std.proofs.Common.{◌≡◌, ℕ, List, [], ◌∷◌, ◌++◌, ap,
 use Rattle.pl_engine.proofs.recorder.RecorderPort.commit.Goals as goal
 use Rattle.pl_engine.specs.Recorded.{Lead, Taken}
 use Rattle.pl_engine.specs.RecordedLaws.{leads_on}
-use Rattle.pl_journal.specs.Journal.{LeadsTo}
-use Rattle.pl_journal.specs.Operation.{empty}
+use Rattle.pl_world.specs.pl_journal.Journal.{LeadsTo}
+use Rattle.pl_world.specs.pl_journal.Operation.{empty}
 
 pub returns-clause-stored : goal.returns-clause-stored
 returns-clause-stored c =

@@ -1,12 +1,12 @@
 use Rattle.std.proofs.Common.{refl}
-use Rattle.pl_engine.specs.Texts.{do_bodies}
+use Rattle.pl_port.specs.pl_engine.Texts.{do_bodies}
 use Rattle.pl_reading.specs.declared.reading.Reading.TheVariants.{Spelled}
 use Rattle.pl_session.proofs.Ends.{answered_end, answered_moments, unanswered, unanswered_moments}
 use Rattle.pl_session.proofs.Opens.{ready_fits}
 use Rattle.pl_session.specs.State.{session_in}
 use Rattle.pl_session.specs.declared.state.SessionState.{SessionState}
 use Rattle.pl_session.proofs.state.SessionState.answer.Goals as goal
-use Rattle.pl_world.specs.Sessions.{does_command}
+use Rattle.pl_exec.specs.pl_world.Sessions.{does_command}
 
 pub do_command-requires-clause-stands : goal.do_command-requires-clause-stands
 do_command-requires-clause-stands g c = c.requires.ready.stands

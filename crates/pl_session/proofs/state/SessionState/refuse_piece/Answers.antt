@@ -6,7 +6,7 @@ use Rattle.pl_session.specs.State.{database_in, session_in}
 use Rattle.pl_session.specs.Traces.{events_in}
 use Rattle.pl_session.specs.declared.state.SessionState.{SessionState}
 use Rattle.pl_session.proofs.state.SessionState.refuse_piece.Goals as goal
-use Rattle.pl_world.specs.Sessions.{refused}
+use Rattle.pl_exec.specs.pl_world.Sessions.{refused}
 
 pub refuse-requires : goal.refuse-requires
 refuse-requires g c = record { stands = c.requires.ready.stands }

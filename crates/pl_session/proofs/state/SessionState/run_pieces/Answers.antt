@@ -1,8 +1,8 @@
 use Rattle.std.proofs.Common.{inl, inr, ◌≡◌, ◌<◌, ◌≤◌, ◌&&◌, [], List, length, Option, Bool, true, false, refl, sym, ◌∙◌, ap, subst, arith}
 use Rattle.std.specs.Prelude.{IfSome}
-use Rattle.pl_engine.specs.declared.stop.Stop.{Stop}
-use Rattle.pl_engine.specs.declared.stop.Stop.TheVariants.{Memory}
-use Rattle.pl_world.specs.Trace.{Event, is_failed}
+use Rattle.pl_port.specs.pl_engine.declared.stop.Stop.{Stop}
+use Rattle.pl_port.specs.pl_engine.declared.stop.Stop.TheVariants.{Memory}
+use Rattle.pl_exec.specs.pl_world.Trace.{Event, is_failed}
 use Rattle.pl_session.specs.Endings.{RunsAlong, GoesOn, StopsBy, ended_of}
 use Rattle.pl_session.specs.Scripts.{IsNextReading}
 use Rattle.pl_session.specs.State.{database_in, session_in}

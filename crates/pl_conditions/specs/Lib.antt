@@ -1,0 +1,1 @@
+pub use Rattle.pl_world.specs as pl_world
