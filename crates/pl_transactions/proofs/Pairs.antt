@@ -1,8 +1,8 @@
 -- Savepoints, each with its name and the database of its mark.
-use Rattle.std.proofs.Common.{◌≡◌, ◌<◌, ◌≤◌, ◌+◌, ℕ, zero, suc, Bool, true, false, List, [], ◌∷◌, ◌++◌, Option, Some, None, ap, arith, get_or, length, refl, slice_get, take}
-use Rattle.std.specs.Prelude.{IfSome, bytes_eq}
+use Rattle.std.proofs.Common.{◌≡◌, ◌∙◌, ℕ, zero, suc, Bool, true, false, List, [], ◌∷◌, ◌++◌, Option, Some, None, ap, arith, cond, get_or, length, refl, slice_get, sym, take}
+use Rattle.std.specs.Prelude.{bytes_eq}
 use Rattle.pl_command.specs.pl_engine.Database.{Database}
-use Rattle.pl_transactions.specs.Places.{newer, place_in}
+use Rattle.pl_transactions.specs.Places.{place_in}
 use Rattle.pl_transactions.specs.State.{paired}
 use Rattle.pl_command.specs.pl_world.Sessions.{Save, later, place_of, put_back}
 use Rattle.pl_command.specs.pl_world.World.{World}
@@ -49,30 +49,24 @@ paired_place name [] ds same = refl
 paired_place name (n ∷ ns) [] same = absurd (omega (arith, same))
 paired_place name (n ∷ ns) (d ∷ ds) same = ap (λ (o : Option ℕ). later o (bytes_eq n name)) (paired_place name ns ds (omega (arith, same)))
 
--- behind so many names, where one was found among these
-abbrev pub behind : (at : ℕ) → (found : Option ℕ) → Option ℕ → Option ℕ
-behind at found (Some i) = Some (at + i)
-behind at found None = found
+-- the newest of the names is the one meant, or else one of the older ones
+place_newest : (name : List ℕ) (older : List (List ℕ)) (newest : List ℕ)
+    → place_in name (older ++ newest ∷ []) ≡ cond (bytes_eq newest name) (Some (length older)) (place_in name older)
+place_newest name [] newest = by_test (bytes_eq newest name)
+  where
+    by_test : (b : Bool) → later None b ≡ cond b (Some 0) None
+    by_test true = refl
+    by_test false = refl
+place_newest name (oldest ∷ older) newest = ap (λ (o : Option ℕ). later o (bytes_eq oldest name)) (place_newest name older newest) ∙ by_test (bytes_eq newest name)
+  where
+    by_test : (b : Bool) → later (cond b (Some (length older)) (place_in name older)) (bytes_eq oldest name)
+        ≡ cond b (Some (suc (length older))) (later (place_in name older) (bytes_eq oldest name))
+    by_test true = refl
+    by_test false = refl
 
--- one name more
-pub one_behind : (at : ℕ) (found : Option ℕ) (o : Option ℕ) (b : Bool) → behind at found (later o b) ≡ behind (at + 1) (newer b at found) o
-one_behind at found (Some i) b = let same : at + suc i ≡ (at + 1) + i = omega arith in ap (λ (n : ℕ). Some n) same
-one_behind at found None true = let same : at + 0 ≡ at = omega arith in ap (λ (n : ℕ). Some n) same
-one_behind at found None false = refl
-
-pub place_on : (name : List ℕ) (first : List ℕ) (rest : List (List ℕ)) (at : ℕ) (found : Option ℕ) → behind at found (place_in name (first ∷ rest)) ≡ behind (at + 1) (newer (bytes_eq first name) at found) (place_in name rest)
-place_on name first rest at found = one_behind at found (place_in name rest) (bytes_eq first name)
-
-pub whole : (o : Option ℕ) → o ≡ behind 0 None o
-whole (Some i) = let same : i ≡ 0 + i = omega arith in ap (λ (n : ℕ). Some n) same
-whole None = refl
-
--- what was found is among those so far
-pub found_within : (b : Bool) (at : ℕ) (found : Option ℕ) → IfSome found (λ i. i < at) → IfSome (newer b at found) (λ i. i < at + 1)
-found_within true at found within = omega arith
-found_within false at (Some i) within = omega (arith, within)
-found_within false at None within = tt
-
-pub all_within : (n m : ℕ) (found : Option ℕ) → n ≤ m → IfSome found (λ i. i < n) → IfSome found (λ i. i < m)
-all_within n m (Some i) le within = omega (arith, le, within)
-all_within n m None le within = tt
+-- the same, where what the test gives is known
+pub place_behind : (name : List ℕ) (all older : List (List ℕ)) (newest : List ℕ) → all ≡ older ++ newest ∷ []
+    → (b : Bool) → b ≡ bytes_eq newest name → (is : Bool) → b ≡ is
+    → place_in name all ≡ cond is (Some (length older)) (place_in name older)
+place_behind name all older newest parts b test is gives =
+    ap (place_in name) parts ∙ place_newest name older newest ∙ ap (λ (b : Bool). cond b (Some (length older)) (place_in name older)) (sym test ∙ gives)

@@ -1,16 +1,13 @@
-use Rattle.std.proofs.Common.{◌≡◌, ◌<◌, ◌+◌, length}
-use Rattle.std.specs.Prelude.{IfSome}
-use Rattle.pl_transactions.proofs.Pairs.{behind}
+use Rattle.std.proofs.Common.{◌≡◌, ◌≤◌, length}
 use Rattle.pl_transactions.proofs.places.place_of.Given as goal
 use Rattle.pl_transactions.specs.Places.{place_in}
 
--- the place among all is that among the rest, or else the one that was found
-abbrev pub invariant-loop-rest : goal.invariant-loop-rest
-invariant-loop-rest l = record {
-  place : place_in l.name l.names ≡ behind l.at l.found (place_in l.name l.rest);
-  left : l.at + length l.rest ≡ length l.names;
-  within : IfSome l.found (λ i. i < l.at);
+-- the place among all is that among the rest
+abbrev pub invariant-loop-newest : goal.invariant-loop-newest
+invariant-loop-newest l = record {
+  place : place_in l.name l.names ≡ place_in l.name l.rest;
+  within : length l.rest ≤ length l.names;
 }
 
-abbrev pub decreases-loop-rest : goal.decreases-loop-rest
-decreases-loop-rest l = length l.rest
+abbrev pub decreases-loop-newest : goal.decreases-loop-newest
+decreases-loop-newest l = length l.rest
