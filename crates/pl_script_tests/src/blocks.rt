@@ -1,9 +1,10 @@
 //! Transaction blocks and savepoints, and what is left of a block where a run stops in it.
 
 use crate::report::Report;
-use crate::runs::{PLAIN, answer, printed, run_on, run_over};
+use crate::runs::{PLAIN, Ran, answer, printed, run_fresh, run_on, run_over};
+use crate::stops::{PICKS, left};
 use pl_base::Memory;
-use pl_disk::{Area, MemoryHost};
+use pl_disk::{Area, MemoryHost, Pick};
 use std::alloc::Global;
 
 /// Scripts over new stores that end with 0, and what they print.
@@ -210,6 +211,229 @@ fn one_fault_leaves_all_of_a_block_or_nothing(rt: HostRuntime) {
             first_whole(rt.alloc(), part),
             Ok(29),
             "{part} bytes are done"
+        );
+    }
+}
+
+// ---- a crash comes
+
+/// What stands behind the table, and of each commit the text that is printed between the one before
+/// it and this one, the reply that tells of it, and the rows that are held then. No row of -1 is
+/// committed.
+const CRASHES: [(&str, &[(&str, &str, &str)]); 7] = [
+    // Savepoints that are returned to, hidden and released.
+    (
+        "BEGIN; INSERT INTO n VALUES (1); SAVEPOINT a; INSERT INTO n VALUES (-1); ROLLBACK TO a; \
+INSERT INTO n VALUES (3); SAVEPOINT a; INSERT INTO n VALUES (5); RELEASE a; COMMIT;",
+        &[(
+            "BEGIN\nINSERT 0 1\nSAVEPOINT\nINSERT 0 1\nROLLBACK\nINSERT 0 1\nSAVEPOINT\n\
+INSERT 0 1\nRELEASE\n",
+            "COMMIT\n",
+            "s\n9\n(1 row)\n",
+        )],
+    ),
+    // A handler outside of a block, and rows that it undoes.
+    (
+        "DO $$ BEGIN INSERT INTO n VALUES (1); BEGIN INSERT INTO n VALUES (-1); PERFORM 1 / 0; \
+EXCEPTION WHEN OTHERS THEN INSERT INTO n VALUES (2); END; END $$;",
+        &[("", "DO\n", "s\n3\n(1 row)\n")],
+    ),
+    // A handler in a block, and an error that a savepoint leads out of.
+    (
+        "BEGIN; INSERT INTO n VALUES (1); SAVEPOINT a; \
+DO $$ BEGIN INSERT INTO n VALUES (-1); PERFORM 1 / 0; \
+EXCEPTION WHEN OTHERS THEN INSERT INTO n VALUES (2); END $$; \
+SAVEPOINT b; INSERT INTO n VALUES (-1); SELECT 1 / 0; ROLLBACK TO b; INSERT INTO n VALUES (4); \
+COMMIT;",
+        &[(
+            "BEGIN\nINSERT 0 1\nSAVEPOINT\nDO\nSAVEPOINT\nINSERT 0 1\n\
+ERROR:  22012: division_by_zero\nROLLBACK\nINSERT 0 1\n",
+            "COMMIT\n",
+            "s\n7\n(1 row)\n",
+        )],
+    ),
+    // Blocks that are rolled back or void, between two that are committed.
+    (
+        "BEGIN; INSERT INTO n VALUES (1); COMMIT; BEGIN; INSERT INTO n VALUES (-1); ROLLBACK; \
+BEGIN; INSERT INTO n VALUES (-1); SELECT 1 / 0; COMMIT; BEGIN; INSERT INTO n VALUES (2); END;",
+        &[
+            ("BEGIN\nINSERT 0 1\n", "COMMIT\n", "s\n1\n(1 row)\n"),
+            (
+                "BEGIN\nINSERT 0 1\nROLLBACK\nBEGIN\nINSERT 0 1\n\
+ERROR:  22012: division_by_zero\nROLLBACK\nBEGIN\nINSERT 0 1\n",
+                "COMMIT\n",
+                "s\n3\n(1 row)\n",
+            ),
+        ],
+    ),
+    // COMMIT in a body, in front of a handler.
+    (
+        "DO $$ BEGIN INSERT INTO n VALUES (1); COMMIT; RAISE NOTICE 'one'; \
+BEGIN INSERT INTO n VALUES (-1); PERFORM 1 / 0; \
+EXCEPTION WHEN OTHERS THEN INSERT INTO n VALUES (2); END; END $$;",
+        &[
+            ("", "NOTICE:  one\n", "s\n1\n(1 row)\n"),
+            ("", "DO\n", "s\n3\n(1 row)\n"),
+        ],
+    ),
+    // Rows that are changed and removed, and changed back.
+    (
+        "BEGIN; INSERT INTO n VALUES (1), (2); COMMIT; BEGIN; SAVEPOINT a; DELETE FROM n; \
+ROLLBACK TO a; UPDATE n SET c = c + 10 WHERE c = 2; SAVEPOINT a; UPDATE n SET c = -1; \
+ROLLBACK TO a; DELETE FROM n WHERE c = 1; COMMIT;",
+        &[
+            ("BEGIN\nINSERT 0 2\n", "COMMIT\n", "s\n3\n(1 row)\n"),
+            (
+                "BEGIN\nSAVEPOINT\nDELETE 2\nROLLBACK\nUPDATE 1\nSAVEPOINT\nUPDATE 2\n\
+ROLLBACK\nDELETE 1\n",
+                "COMMIT\n",
+                "s\n12\n(1 row)\n",
+            ),
+        ],
+    ),
+    // A table that is dropped and made in a block that isn't ended.
+    (
+        "INSERT INTO n VALUES (1); BEGIN; DROP TABLE n; CREATE TABLE n (c integer); \
+INSERT INTO n VALUES (-1);",
+        &[("", "INSERT 0 1\n", "s\n1\n(1 row)\n")],
+    ),
+];
+
+/// What tells of the table's commit.
+const TABLE_REPLY: usize = 13;
+
+// How many commits are held, that of the table among them. None where it is something else.
+fn stage_of(held: &str, commits: &[(&str, &str, &str)]) -> Option<usize> {
+    if held == NO_TABLE {
+        return Some(0);
+    }
+    let mut stage: usize = 1;
+    let mut rows = NO_ROW;
+    for (_, _, next) in commits {
+        if held == rows {
+            return Some(stage);
+        }
+        stage = stage.saturating_add(1);
+        rows = next;
+    }
+    if held == rows { Some(stage) } else { None }
+}
+
+// How many commits are told of where so much was printed, and how many were reached then.
+fn due(length: usize, commits: &[(&str, &str, &str)]) -> (usize, usize) {
+    let mut end = TABLE_REPLY;
+    let mut told = usize::from(length >= end);
+    let mut reached: usize = 1;
+    for (before, reply, _) in commits {
+        end = end.saturating_add(before.len());
+        reached = reached.saturating_add(usize::from(length >= end));
+        end = end.saturating_add(reply.len());
+        told = told.saturating_add(usize::from(length >= end));
+    }
+    (told, reached)
+}
+
+fn with_table(alloc: Global, commands: &str) -> Result<Vec<u8>, Memory> {
+    let mut script = TABLE.to_vec(alloc)?;
+    script.extend_from_slice(commands.as_bytes())?;
+    Ok(script)
+}
+
+// How much a run prints up to the call.
+fn length_before(alloc: Global, script: &[u8], call: u64) -> Option<usize> {
+    let fail = [call.saturating_add(1)];
+    match run_on(alloc, b"", b"", &PLAIN, script, &fail) {
+        Ok(ran) => Some(ran.host.printed().len()),
+        Err(_) => None,
+    }
+}
+
+// How many commits a crash just after the call leaves.
+fn stage_after(
+    alloc: Global,
+    host: &MemoryHost,
+    call: u64,
+    pick: Pick,
+    commits: &[(&str, &str, &str)],
+) -> Option<usize> {
+    match left(alloc, host, call, pick) {
+        Ok((a, b)) => stage_of(held(alloc, &a, &b).text(), commits),
+        Err(_) => None,
+    }
+}
+
+// Whether each pick leaves at least so many commits, and at most so many.
+fn is_between(
+    alloc: Global,
+    host: &MemoryHost,
+    call: u64,
+    least: usize,
+    most: usize,
+    commits: &[(&str, &str, &str)],
+) -> bool {
+    for pick in PICKS {
+        match stage_after(alloc, host, call, pick, commits) {
+            Some(stage) => {
+                if stage < least || stage > most {
+                    return false;
+                }
+            }
+            None => return false,
+        }
+    }
+    true
+}
+
+// Whether a crash after the call leaves each commit that was told of, and none that wasn't reached.
+fn is_kept(
+    alloc: Global,
+    script: &[u8],
+    host: &MemoryHost,
+    call: u64,
+    commits: &[(&str, &str, &str)],
+) -> bool {
+    match length_before(alloc, script, call) {
+        Some(length) => {
+            let (told, reached) = due(length, commits);
+            is_between(alloc, host, call, told, reached, commits)
+        }
+        None => false,
+    }
+}
+
+// Whether all commits are there behind the last call.
+fn is_done(alloc: Global, ran: &Ran, commits: &[(&str, &str, &str)]) -> bool {
+    let (a, b) = (ran.host.area(Area::A), ran.host.area(Area::B));
+    let stage = stage_of(held(alloc, a, b).text(), commits);
+    ran.status == 0 && stage == Some(commits.len().saturating_add(1))
+}
+
+// The first call of the script's run after which a crash leaves anything else.
+fn first_unkept(alloc: Global, commands: &str, commits: &[(&str, &str, &str)]) -> Option<u64> {
+    let Ok(script) = with_table(alloc, commands) else {
+        return Some(0);
+    };
+    let Ok(ran) = run_fresh(alloc, &PLAIN, &script) else {
+        return Some(0);
+    };
+    if !is_done(alloc, &ran, commits) {
+        return Some(ran.host.calls());
+    }
+    for call in 0..ran.host.calls() {
+        if !is_kept(alloc, &script, &ran.host, call, commits) {
+            return Some(call);
+        }
+    }
+    None
+}
+
+#[test]
+fn a_crash_leaves_all_of_a_block_or_nothing(rt: HostRuntime) {
+    for (commands, commits) in CRASHES {
+        assert_eq!(rt;
+            first_unkept(rt.alloc(), commands, commits),
+            None,
+            "{commands}"
         );
     }
 }

@@ -9,6 +9,8 @@ mod blocks;
 #[cfg(test)]
 mod bodies;
 #[cfg(test)]
+mod changes;
+#[cfg(test)]
 mod checkpoints;
 #[cfg(test)]
 mod commands;

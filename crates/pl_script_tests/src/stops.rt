@@ -192,8 +192,8 @@ pub(crate) const PICKS: [Pick; 5] = [
     Pick::Fill(255),
 ];
 
-// The files that a crash just after the call leaves.
-fn left(
+/// The files that a crash just after the call leaves.
+pub(crate) fn left(
     alloc: Global,
     host: &MemoryHost,
     call: u64,
