@@ -177,9 +177,9 @@ class Insert(Change):
         yield from super().smaller()
         cut = lambda **fields: dataclasses.replace(self, **fields)
         if self.query:
-            items = len(self.query.items)
-            same = (it for it in self.query.smaller() if it.is_told and len(it.items) == items)
-            yield from (cut(query=it) for it in same)
+            items, has_order = len(self.query.items), self.query.is_ordered
+            told = (it for it in self.query.smaller() if it.is_told and it.is_ordered >= has_order)
+            yield from (cut(query=it) for it in told if len(it.items) == items)
         if len(self.rows) > 1:
             yield from (cut(rows=it) for it in without_each(self.rows))
         yield from (cut(rows=it) for it in with_each_cut(self.rows, lambda row: with_each_cut(row, cuts_of)))
