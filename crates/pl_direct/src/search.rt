@@ -1,11 +1,11 @@
 //! Variables by their names. Nothing of a variable is copied while they are sought.
 
-ghost use Rattle.std.specs.Prelude.{◌≡◌, ◌+◌, ◌<◌, ◌^◌, bytes_eq, false, is_some, length, true, IfSome};
+ghost use Rattle.std.specs.Prelude.{◌≡◌, ◌+◌, ◌<◌, ◌^◌, false, is_some, length, true, IfSome};
 ghost use Rattle.pl_direct.specs.Search.{column_of, ty_of};
 ghost use Rattle.pl_names.specs.Names as spec;
 
 use pl_base::Name;
-use pl_names::{Seen, Visible};
+use pl_names::{Seen, Visible, is_same};
 
 /// A variable that was found.
 #[derive(Clone, Copy)]
@@ -13,30 +13,6 @@ pub struct Spot<'a> {
     /// Its place among the variables, counted from 0.
     pub column: usize,
     pub seen: &'a Seen,
-}
-
-// Whether two names are one. Most that aren't differ in their first bytes.
-fn same(a: &[u8], b: &[u8]) -> bool
-    ensures { result ≡ bytes_eq a.now b.now }
-{
-    let mut left = a;
-    let mut right = b;
-    while let [x, more @ ..] = left {
-        match right {
-            [y, rest @ ..] => {
-                if *x != *y {
-                    return false;
-                }
-                left = more;
-                right = rest;
-            }
-            [] => return false,
-        }
-    }
-    match right {
-        [] => true,
-        [_, ..] => false,
-    }
 }
 
 // One more variable that has the name. None where there is one already.
@@ -73,12 +49,11 @@ fn variables_named<'a>(name: &Name, place: usize, variables: &'a [Seen]) -> Opti
         spec.here (is_some found) 0 (column_of found) (ty_of found) false
         ≡ spec.variables_named name.now place variables.now) }
 {
-    let wanted = name.as_bytes();
     let mut found = None;
     let mut at = place;
     let mut rest = variables;
     while let [variable, more @ ..] = rest {
-        if same(variable.name.as_bytes(), wanted) {
+        if is_same(&variable.name, name) {
             found = also(found, at, variable)?;
         }
         at += 1;

@@ -6,6 +6,7 @@ mod found;
 mod laws;
 mod names;
 mod routines;
+mod same;
 mod scope;
 mod sources;
 
@@ -16,6 +17,7 @@ pub use names::{
     qualified_means,
 };
 pub use routines::called;
+pub use same::is_same;
 pub use scope::{Level, Names, Scope, Seen, Shape, Source, Visible};
 pub use sources::{
     COLUMN_LIMIT, Items, Sourced, columns_of, derived, every_column, table, together, valued,

@@ -6,6 +6,7 @@ ghost use Rattle.pl_names.specs.Names.{around, reach};
 ghost use Rattle.pl_typing.specs.Resolved.{Gives};
 
 use crate::found::{Found, Meaning, both, known_one, nearer_labelled, nearer_one};
+use crate::same::is_same;
 use crate::{Level, Names, Seen, Source, Visible};
 use pl_base::{Boxed, List, Memory, Name, State, Ty};
 use pl_resolved::{Head, RExpr};
@@ -14,38 +15,29 @@ use std::alloc::{AllocError, Global};
 
 // ---- columns
 
-fn here(is: bool, meaning: Meaning) -> Found
-    ensures { result ≡ spec.here is meaning.row meaning.column meaning.ty meaning.is_barred }
-{
-    if is {
-        Found::One(meaning)
-    } else {
-        Found::Nothing
-    }
-}
-
-fn columns_named(name: Name, is_barred: bool, source: &Source) -> Found
-    ensures { result ≡ spec.columns_named name is_barred source.now.row 0 source.now.columns }
+fn columns_named(name: &Name, is_barred: bool, source: &Source) -> Found
+    ensures { result ≡ spec.columns_named name.now is_barred source.now.row 0 source.now.columns }
 {
     let mut found = Found::Nothing;
     let mut column = 0;
     let mut rest = source.columns.as_slice();
     while let [head, more @ ..] = rest {
-        let meaning = Meaning {
-            row: source.row,
-            column,
-            ty: head.ty,
-            is_barred,
-        };
-        found = found.also(here(head.name == name, meaning));
+        if is_same(&head.name, name) {
+            found = found.also(Found::One(Meaning {
+                row: source.row,
+                column,
+                ty: head.ty,
+                is_barred,
+            }));
+        }
         column += 1;
         rest = more;
     }
     found
 }
 
-fn columns_in(name: Name, is_barred: bool, mut sources: &[Source]) -> Found
-    ensures { result ≡ spec.columns_in name is_barred sources.entry.now }
+fn columns_in(name: &Name, is_barred: bool, mut sources: &[Source]) -> Found
+    ensures { result ≡ spec.columns_in name.now is_barred sources.entry.now }
 {
     let mut found = Found::Nothing;
     while let [source, rest @ ..] = sources {
@@ -55,8 +47,8 @@ fn columns_in(name: Name, is_barred: bool, mut sources: &[Source]) -> Found
     found
 }
 
-fn columns_within(name: Name, mut levels: &[Level<'_>]) -> Found
-    ensures { result ≡ spec.columns_within name (map reach levels.entry.now) }
+fn columns_within(name: &Name, mut levels: &[Level<'_>]) -> Found
+    ensures { result ≡ spec.columns_within name.now (map reach levels.entry.now) }
 {
     let mut found = Found::Nothing;
     while let [level, rest @ ..] = levels {
@@ -70,7 +62,7 @@ fn columns_within(name: Name, mut levels: &[Level<'_>]) -> Found
 pub fn is_column(name: Name, sources: &[Source]) -> bool
     ensures { result ≡ spec.is_column name sources.now }
 {
-    columns_in(name, false, sources).is_any()
+    columns_in(&name, false, sources).is_any()
 }
 
 // ---- variables
@@ -85,35 +77,54 @@ fn behind(place: usize, count: usize) -> Result<usize, Memory>
     }
 }
 
-fn variables_named(name: Name, place: usize, variables: &[Seen]) -> Found
+fn variables_named(name: &Name, place: usize, variables: &[Seen]) -> Found
     requires room { place + length variables.now < 2 ^ 64 }
-    ensures { result ≡ spec.variables_named name place variables.now }
+    ensures { result ≡ spec.variables_named name.now place variables.now }
 {
     let mut found = Found::Nothing;
     let mut at = place;
     let mut rest = variables;
     while let [variable, more @ ..] = rest {
-        let meaning = Meaning {
-            row: 0,
-            column: at,
-            ty: variable.ty,
-            is_barred: false,
-        };
-        found = found.also(here(variable.name == name, meaning));
+        if is_same(&variable.name, name) {
+            found = found.also(Found::One(Meaning {
+                row: 0,
+                column: at,
+                ty: variable.ty,
+                is_barred: false,
+            }));
+        }
         at += 1;
         rest = more;
     }
     found
 }
 
-fn variables_within(name: Name, mut frames: &[Visible]) -> Result<Found, Memory>
-    ensures { IfOk result (λ found. found ≡ spec.variables_within name 0 frames.entry.now) }
+// Variables of this name hide what was found further out.
+fn variables_over(name: &Name, place: usize, variables: &[Seen], found: &mut Found)
+    requires room { place + length variables.now < 2 ^ 64 }
+    ensures { found.new ≡ spec.nearer (spec.variables_named name.now place variables.now)
+        found.old }
+{
+    let mut at = place;
+    let mut rest = variables;
+    while let [variable, more @ ..] = rest {
+        if is_same(&variable.name, name) {
+            *found = variables_named(name, at, rest);
+            return;
+        }
+        at += 1;
+        rest = more;
+    }
+}
+
+fn variables_within(name: &Name, mut frames: &[Visible]) -> Result<Found, Memory>
+    ensures { IfOk result (λ found. found ≡ spec.variables_within name.now 0 frames.entry.now) }
 {
     let mut found = Found::Nothing;
     let mut place = 0;
     while let [frame, rest @ ..] = frames {
         let next = behind(place, frame.variables.len())?;
-        found = variables_named(name, place, frame.variables.as_slice()).nearer(found);
+        variables_over(name, place, frame.variables.as_slice(), &mut found);
         place = next;
         frames = rest;
     }
@@ -128,8 +139,8 @@ fn variables_within(name: Name, mut frames: &[Visible]) -> Result<Found, Memory>
 pub fn name_means(name: Name, names: &Names<'_>) -> Result<Meaning, ScopeFail>
     ensures { Gives result (spec.name_means name (around names.now)) }
 {
-    let columns = columns_within(name, names.levels);
-    match variables_within(name, names.scope.frames.as_slice()) {
+    let columns = columns_within(&name, names.levels);
+    match variables_within(&name, names.scope.frames.as_slice()) {
         Ok(variables) => columns.also(variables).the_one(),
         Err(Memory) => Err(ScopeFail::Memory),
     }
@@ -137,11 +148,16 @@ pub fn name_means(name: Name, names: &Names<'_>) -> Result<Meaning, ScopeFail>
 
 // ---- qualified names
 
-fn item_named(qualifier: Name, name: Name, is_barred: bool, mut sources: &[Source]) -> Option<Found>
-    ensures { result ≡ spec.item_named qualifier name is_barred sources.entry.now }
+fn item_named(
+    qualifier: &Name,
+    name: &Name,
+    is_barred: bool,
+    mut sources: &[Source],
+) -> Option<Found>
+    ensures { result ≡ spec.item_named qualifier.now name.now is_barred sources.entry.now }
 {
     while let [source, rest @ ..] = sources {
-        if source.name == qualifier {
+        if is_same(&source.name, qualifier) {
             return Some(columns_named(name, is_barred, source));
         }
         sources = rest;
@@ -149,8 +165,8 @@ fn item_named(qualifier: Name, name: Name, is_barred: bool, mut sources: &[Sourc
     None
 }
 
-fn item_within(qualifier: Name, name: Name, mut levels: &[Level<'_>]) -> Option<Found>
-    ensures { result ≡ spec.item_within qualifier name (map reach levels.entry.now) }
+fn item_within(qualifier: &Name, name: &Name, mut levels: &[Level<'_>]) -> Option<Found>
+    ensures { result ≡ spec.item_within qualifier.now name.now (map reach levels.entry.now) }
 {
     let mut found = None;
     while let [level, rest @ ..] = levels {
@@ -161,19 +177,19 @@ fn item_within(qualifier: Name, name: Name, mut levels: &[Level<'_>]) -> Option<
     found
 }
 
-fn labelled_here(qualifier: Name, name: Name, place: usize, frame: &Visible) -> Option<Found>
+fn labelled_here(qualifier: &Name, name: &Name, place: usize, frame: &Visible) -> Option<Found>
     requires room { place + length frame.now.variables < 2 ^ 64 }
-    ensures { result ≡ spec.labelled_here qualifier name place frame.now }
+    ensures { result ≡ spec.labelled_here qualifier.now name.now place frame.now }
 {
-    if frame.label == qualifier {
+    if is_same(&frame.label, qualifier) {
         Some(variables_named(name, place, frame.variables.as_slice()))
     } else {
         None
     }
 }
 
-fn labelled(qualifier: Name, name: Name, mut frames: &[Visible]) -> Result<Option<Found>, Memory>
-    ensures { IfOk result (λ found. found ≡ spec.labelled qualifier name 0 frames.entry.now) }
+fn labelled(qualifier: &Name, name: &Name, mut frames: &[Visible]) -> Result<Option<Found>, Memory>
+    ensures { IfOk result (λ found. found ≡ spec.labelled qualifier.now name.now 0 frames.entry.now) }
 {
     let mut found = None;
     let mut place = 0;
@@ -193,8 +209,8 @@ fn labelled(qualifier: Name, name: Name, mut frames: &[Visible]) -> Result<Optio
 pub fn qualified_means(qualifier: Name, name: Name, names: &Names<'_>) -> Result<Meaning, ScopeFail>
     ensures { Gives result (spec.qualified_means qualifier name (around names.now)) }
 {
-    let columns = item_within(qualifier, name, names.levels);
-    match labelled(qualifier, name, names.scope.frames.as_slice()) {
+    let columns = item_within(&qualifier, &name, names.levels);
+    match labelled(&qualifier, &name, names.scope.frames.as_slice()) {
         Ok(variables) => known_one(both(columns, variables)),
         Err(Memory) => Err(ScopeFail::Memory),
     }

@@ -1,6 +1,6 @@
 use Rattle.std.proofs.Common.{◌≡◌, length}
 use Rattle.std.specs.Prelude.{bytes_eq}
-use Rattle.pl_direct.proofs.search.same.Given as goal
+use Rattle.pl_names.proofs.same.is_same.Given as goal
 
 abbrev pub invariant-loop-left : goal.invariant-loop-left
 invariant-loop-left l = bytes_eq l.a l.b ≡ bytes_eq l.left l.right
