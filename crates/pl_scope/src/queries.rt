@@ -117,6 +117,7 @@ fn select(
     })
 }
 
+// The order of the rows and how many of them; most queries say neither.
 #[cycle(resolving)]
 fn arrange(
     alloc: Global,
@@ -132,6 +133,15 @@ fn arrange(
     ensures { Meets (queries.arranged (tree.query_view q.now) sources.now heads.now values (around
         names.now) made.old) result made.new }
 {
+    let ordered = Ordered::new(alloc, values);
+    let keys = q.order.as_slice();
+    if keys.is_empty() && q.limit.is_none() && q.offset.is_none() {
+        return Ok(Arranged {
+            ordered,
+            limit: None,
+            offset: None,
+        });
+    }
     let levels = entered(alloc, names.levels, &*sources, false)?;
     let grouped = inside(
         names.catalog,
@@ -141,8 +151,6 @@ fn arrange(
         names.next_row,
         true,
     );
-    let ordered = Ordered::new(alloc, values);
-    let keys = q.order.as_slice();
     let ordered = keys_on(alloc, keys, q.is_distinct, heads, ordered, &grouped, made)?;
     let levels = entered(alloc, names.levels, &*sources, true)?;
     let outside = inside(
