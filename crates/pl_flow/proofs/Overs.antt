@@ -1,5 +1,5 @@
 -- The variable of a FOR, and the variables of a block.
-use Rattle.std.proofs.Common.{◌≡◌, ◌<◌, ◌∙◌, arith, Bool, ℕ, ℤ, zero, suc, true, false, List, [], Option, ap, nat_lt, refl, sym}
+use Rattle.std.proofs.Common.{◌≡◌, ◌<◌, ◌∙◌, arith, Bool, ℕ, ℤ, zero, suc, true, false, List, Option, ap, nat_lt, refl, sym}
 use Rattle.std.proofs.lemmas.Bool.{lt-ltb}
 use Rattle.pl_base.specs.declared.types.Ty.{Ty}
 use Rattle.pl_base.specs.declared.types.Ty.TheVariants.{Int as Integer}
@@ -20,7 +20,7 @@ use Rattle.pl_names.specs.Names.{Name}
 use Rattle.pl_engine.specs.pl_world.Blocks.{all_declared, block, block_end, block_left, protected, within_block}
 use Rattle.pl_engine.specs.pl_world.Control.{counted_from, each, for_left, over_numbers, with_turns}
 use Rattle.pl_engine.specs.pl_world.Errors.{Spot}
-use Rattle.pl_engine.specs.pl_world.Running.{Runner, all, on_next}
+use Rattle.pl_engine.specs.pl_world.Running.{Runner, on_next}
 use Rattle.pl_engine.specs.pl_world.Variables.{closed, declared, newest_place, opened, with_found}
 use Rattle.pl_engine.specs.pl_world.World.{Ran, World, and_then, ends}
 use Rattle.pl_engine.specs.pl_world.declared.outcome.Outcome.{Outcome}
@@ -122,10 +122,6 @@ within_is : (r : Runner) (at : Spot) (b : Block) (w : World)
 unfolding within_block
 within_is r at b w = refl
 
-plain_is : (r : Runner) (label : Option Name) (statements : List Statement) (w : World) → protected r label statements [] w ≡ all r statements w
-unfolding protected
-plain_is r label statements w = refl
-
 abbrev pub statements_next : Runner → Block → World → Ran Outcome
 statements_next r b w = protected r (out-Block b).label (out-Block b).statements (out-Block b).handlers w
 
@@ -145,9 +141,3 @@ module _ {P : Type 0} {port : Ghosts P} (law : Lawful port) (r : Runner) (at : S
       → Partway port (within_block r at b (world e)) (and_then (all_declared r at ds (world e)) (on_next (statements_next r b))) e e p p
   within_here e p ds fits is = becomes law (start law (within_block r at b (world e)) e p fits)
       (within_is r at b (world e) ∙ ap (λ (ds : List Declaration). and_then (all_declared r at ds (world e)) (on_next (statements_next r b))) (sym is))
-
-  pub statements_here : {whole : Ran Outcome} {old mid : Engine} {p q : P} (ss : List Statement) → ss ≡ (out-Block b).statements → (out-Block b).handlers ≡ [] → Partway port whole (statements_next r b (world mid)) old mid p q
-      → Partway port whole (all r ss (world mid)) old mid p q
-  statements_here {whole} {old} {mid} ss is none way = becomes law way
-      (ap (λ hs. protected r (out-Block b).label (out-Block b).statements hs (world mid)) none ∙ (plain_is r (out-Block b).label (out-Block b).statements (world mid)
-      ∙ ap (λ (ss : List Statement). all r ss (world mid)) (sym is)))

@@ -1,19 +1,19 @@
-//! Blocks without handlers: PostgreSQL manual, "PL/pgSQL", "Structure of PL/pgSQL".
+//! The declarations of blocks, and how blocks end: PostgreSQL manual, "PL/pgSQL", "Structure of
+//! PL/pgSQL".
 
-ghost use Rattle.std.specs.Prelude.{◌≡◌, ◌≤◌, [], OnOk};
+ghost use Rattle.std.specs.Prelude.{◌≡◌, ◌≤◌, OnOk};
 ghost use Rattle.pl_engine.specs.Answers.{Answers};
 ghost use Rattle.pl_engine.specs.Engines.{kept, world};
 ghost use Rattle.pl_engine.specs.Runs.{Runs};
 ghost use Rattle.pl_engine.specs.Texts.{do_bodies};
-ghost use Rattle.pl_bodies.specs.declared.statement.Block.{out-Block};
 ghost use Rattle.pl_engine.specs.pl_world.Blocks as spec;
 ghost use Rattle.pl_engine.specs.pl_world.Statements.{runner_for};
 ghost use Rattle.pl_engine.specs.pl_world.declared.outcome.Outcome.TheVariants as outcome;
 
 use pl_base::Name;
-use pl_bodies::{Block, Declaration};
+use pl_bodies::Declaration;
 use pl_engine::pl_world::Outcome;
-use pl_engine::{Ask, Engine, Port, Runner, Spot, Stop, Task, all, ask};
+use pl_engine::{Ask, Engine, Port, Runner, Spot, Stop, Task, ask};
 
 // EXIT names the block.
 fn is_named(label: &Option<Name>, to: &Option<Name>) -> bool
@@ -70,55 +70,4 @@ where
         }
     }
     Ok(Outcome::Next)
-}
-
-// The declarations, and then the statements.
-fn within<P: Port, F>(
-    runner: &Runner<F>,
-    engine: &mut Engine,
-    port: &mut P,
-    at: Spot,
-    block: &Block,
-) -> Result<Outcome, Stop>
-where
-    F: Fn(u64, &mut Engine, &mut P, Task<'_>) -> Result<Outcome, Stop>,
-    requires room { (world engine.old).steps ≤ runner.now.room }
-    requires fits { P.fits (world engine.old).last port.old }
-    requires runs { Runs P.Port runner.now.room (F.pre runner.now.run) (F.post runner.now.run) }
-    requires plain { (out-Block block.now).handlers ≡ [] }
-    ensures is { Answers P.Port
-        (spec.within_block (runner_for do_bodies runner.now.room) at block.now
-        (world engine.old)) result
-        engine.old engine.new port.old port.new }
-    ensures keeps { OnOk result (kept engine.new ≡ kept engine.old) }
-{
-    match declare(runner, engine, port, at, block.declarations.as_slice())? {
-        Outcome::Next => all(runner, engine, port, block.statements.as_slice()),
-        other => Ok(other),
-    }
-}
-
-/// A block without handlers. Its variables are gone behind it.
-pub fn block<P: Port, F>(
-    runner: &Runner<F>,
-    engine: &mut Engine,
-    port: &mut P,
-    at: Spot,
-    block: &Block,
-) -> Result<Outcome, Stop>
-where
-    F: Fn(u64, &mut Engine, &mut P, Task<'_>) -> Result<Outcome, Stop>,
-    requires room { (world engine.old).steps ≤ runner.now.room }
-    requires fits { P.fits (world engine.old).last port.old }
-    requires runs { Runs P.Port runner.now.room (F.pre runner.now.run) (F.post runner.now.run) }
-    requires plain { (out-Block block.now).handlers ≡ [] }
-    ensures is { Answers P.Port
-        (spec.block (runner_for do_bodies runner.now.room) at block.now (world engine.old)) result
-        engine.old engine.new port.old port.new }
-    ensures keeps { OnOk result (kept engine.new ≡ kept engine.old) }
-{
-    engine.open(block.label)?;
-    let end = within(runner, engine, port, at, block)?;
-    engine.close();
-    Ok(block_end(&block.label, end))
 }

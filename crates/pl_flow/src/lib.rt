@@ -1,5 +1,6 @@
 //! Statements that steer others: IF, CASE with conditions, loops, FOR over numbers, EXIT, CONTINUE,
-//! and blocks without handlers. What stands inside of them is run by a function that is passed in.
+//! and the declarations of blocks. What stands inside of them is run by a function that is passed
+//! in.
 #![tactic(auto)]
 
 mod answered;
@@ -13,7 +14,7 @@ mod ranges;
 mod turns;
 
 pub use answered::{is_true, truth_of};
-pub use blocks::{block, block_end, declare};
+pub use blocks::{block_end, declare};
 pub use branching::branches;
 pub use cases::{not_found, searched};
 pub use jumps::jump;
