@@ -118,8 +118,10 @@ class Script:
             rows = [(row[0], is_even(row)) for row in self.rows[a].values()]
             self.insert(f"INSERT INTO {b} SELECT k, k % 2 = 0 FROM {a}", b, rows)
         elif way == 4:
-            fails = any(row[0] > 1 for row in self.rows[b].values())
-            self.add(f"UPDATE {b} SET is_even = NULL WHERE k > 1", FAILS_BY_NULL if fails else "UPDATE 0")
+            # (the rows before the last one are written by then)
+            last = max((row[0] for row in self.rows[b].values()), default=0)
+            change = f"is_even = CASE WHEN k = {last} THEN NULL ELSE NOT is_even END"
+            self.add(f"UPDATE {b} SET {change}", FAILS_BY_NULL if self.rows[b] else "UPDATE 0")
         elif way == 5:
             self.delete(b, "k % 3 = 0", lambda row: row[0] % 3 == 0)
         elif way == 6:
