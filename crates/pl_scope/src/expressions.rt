@@ -12,23 +12,19 @@ ghost use Rattle.pl_typing.specs.Calls.{no_arguments};
 ghost use Rattle.pl_typing.specs.Cases.{no_arms};
 
 use crate::Made;
-use crate::casting::cast_known;
 use crate::collecting::{collect, count_rows};
 use crate::entering::without_aggregates;
-use crate::gathering::{Gathering, chain_of, gather, whole};
-use crate::operands::{
-    Two, asked_of, cased, exists_of, in_query_of, negated_of, scalar_of, signed_of, step_by,
-    truth_if, two_by,
+use crate::forms::{
+    all_of, any_of, asked, between, case, cast, compared, concat, distinct, exists, in_list,
+    in_query, like, negated, null_if, picked, product, row, scalar, signed, sum,
 };
-use crate::queries::query;
-use pl_base::{Boxed, List, Name, State, Ty};
+use crate::gathering::{Gathering, chain_of, gather, whole};
+use crate::operands::{Two, step_by, truth_if, two_by};
+use pl_base::{Boxed, Name, State, Ty};
 use pl_names::{Names, called, named, parameter, qualified};
 use pl_resolved::RExpr;
 use pl_tree::{Argument, Arm, Expr, Factor, Term};
-use pl_typing::{
-    Arguments, Arms, Listed, Run, ScopeFail, Typed, aggregate_named, literal, operand_type, tested,
-    tree_of,
-};
+use pl_typing::{Arguments, Arms, Run, ScopeFail, Typed, aggregate_named, literal, tested};
 use std::alloc::Global;
 
 /// An expression where these names are sought, with what it makes.
@@ -43,153 +39,65 @@ pub fn expr(alloc: Global, e: &Expr, names: &Names<'_>, made: &mut Made) -> Resu
         Expr::Qualified { qualifier, name } => qualified(alloc, *qualifier, *name, names),
         Expr::Call { name, arguments } => call(alloc, arguments.as_slice(), *name, names, made),
         Expr::CountRows => count_rows(alloc, names, made),
-        Expr::Subquery(inner) => {
-            let inner = query(alloc, inner.get(), names, made);
-            scalar_of(alloc, inner)
-        }
-        Expr::Exists(inner) => {
-            let inner = query(alloc, inner.get(), names, made);
-            exists_of(alloc, inner)
-        }
-        Expr::Pick { pick, list } => {
-            let none = Gathering::Pick {
-                pick: *pick,
-                all: Listed::new(alloc),
-            };
-            gathered_on(alloc, list.as_slice(), none, names, made)
-        }
-        Expr::NullIf(left, right) => {
-            let left = boxed(alloc, left, names, made);
-            second(alloc, right, left, Two::NullIf, names, made)
-        }
-        Expr::Row(list) => {
-            let none = Gathering::Row(Arguments::new(alloc));
-            gathered_on(alloc, list.as_slice(), none, names, made)
-        }
+        Expr::Subquery(inner) => scalar(alloc, inner, names, made),
+        Expr::Exists(inner) => exists(alloc, inner, names, made),
+        Expr::Pick { pick, list } => picked(alloc, *pick, list.as_slice(), names, made),
+        Expr::NullIf(left, right) => null_if(alloc, left, right, names, made),
+        Expr::Row(list) => row(alloc, list.as_slice(), names, made),
         Expr::Case {
             operand,
             arms,
             otherwise,
-        } => {
-            let operand = maybe(alloc, operand, names, made)?;
-            let ty = operand_type(&operand);
-            let done = arms_on(alloc, arms.as_slice(), &ty, names, made)?;
-            let otherwise = maybe(alloc, otherwise, names, made);
-            cased(alloc, tree_of(operand), done, otherwise)
-        }
-        Expr::Cast { operand, types } => {
-            let operand = boxed(alloc, operand, names, made);
-            cast_known(alloc, operand, types.as_slice(), names)
-        }
-        Expr::Signed { signs, operand } => {
-            let operand = boxed(alloc, operand, names, made);
-            signed_of(alloc, signs.as_slice(), operand)
-        }
-        Expr::Product { first, factors } => {
-            let first = boxed(alloc, first, names, made)?;
-            let run = Run::new(alloc, first);
-            factors_on(alloc, factors.as_slice(), run, names, made)
-        }
-        Expr::Sum { first, terms } => {
-            let first = boxed(alloc, first, names, made)?;
-            let run = Run::new(alloc, first);
-            terms_on(alloc, terms.as_slice(), run, names, made)
-        }
-        Expr::Concat(list) => {
-            gathered_on(alloc, list.as_slice(), Gathering::Concat(None), names, made)
-        }
+        } => case(alloc, operand, arms.as_slice(), otherwise, names, made),
+        Expr::Cast { operand, types } => cast(alloc, operand, types.as_slice(), names, made),
+        Expr::Signed { signs, operand } => signed(alloc, signs.as_slice(), operand, names, made),
+        Expr::Product { first, factors } => product(alloc, first, factors.as_slice(), names, made),
+        Expr::Sum { first, terms } => sum(alloc, first, terms.as_slice(), names, made),
+        Expr::Concat(list) => concat(alloc, list.as_slice(), names, made),
         Expr::Between {
             is_negated,
             operand,
             low,
             high,
-        } => {
-            let operand = boxed(alloc, operand, names, made)?;
-            let low = boxed(alloc, low, names, made);
-            let by = Two::Between {
-                is_negated: *is_negated,
-                operand,
-            };
-            second(alloc, high, low, by, names, made)
-        }
+        } => between(alloc, *is_negated, operand, low, high, names, made),
         Expr::InList {
             is_negated,
             operand,
             list,
-        } => {
-            let operand = boxed(alloc, operand, names, made);
-            let none = Gathering::InList {
-                is_negated: *is_negated,
-                all: Listed::new(alloc),
-            };
-            let first = gather(alloc, none, operand)?;
-            gathered_on(alloc, list.as_slice(), first, names, made)
-        }
+        } => in_list(alloc, *is_negated, operand, list.as_slice(), names, made),
         Expr::InQuery {
             is_negated,
             operand,
             query: inner,
-        } => {
-            let operand = boxed(alloc, operand, names, made)?;
-            let inner = query(alloc, inner.get(), names, made);
-            in_query_of(alloc, *is_negated, operand, inner)
-        }
+        } => in_query(alloc, *is_negated, operand, inner, names, made),
         Expr::Like {
             is_negated,
             operand,
             pattern,
-        } => {
-            let operand = boxed(alloc, operand, names, made);
-            let by = Two::Like {
-                is_negated: *is_negated,
-            };
-            second(alloc, pattern, operand, by, names, made)
-        }
+        } => like(alloc, *is_negated, operand, pattern, names, made),
         Expr::Compare {
             comparison,
             left,
             right,
-        } => {
-            let left = boxed(alloc, left, names, made);
-            let by = Two::Compare(*comparison);
-            second(alloc, right, left, by, names, made)
-        }
+        } => compared(alloc, *comparison, left, right, names, made),
         Expr::Is {
             is_negated,
             operand,
             test,
-        } => {
-            let operand = boxed(alloc, operand, names, made);
-            asked_of(alloc, *is_negated, operand, *test)
-        }
+        } => asked(alloc, *is_negated, operand, *test, names, made),
         Expr::IsDistinct {
             is_negated,
             left,
             right,
-        } => {
-            let left = boxed(alloc, left, names, made);
-            let by = Two::IsDistinct {
-                is_negated: *is_negated,
-            };
-            second(alloc, right, left, by, names, made)
-        }
-        Expr::Not { count, operand } => {
-            let operand = boxed(alloc, operand, names, made);
-            negated_of(alloc, *count, operand)
-        }
-        Expr::And(list) => {
-            let none = Gathering::And(List::new(alloc));
-            gathered_on(alloc, list.as_slice(), none, names, made)
-        }
-        Expr::Or(list) => {
-            let none = Gathering::Or(List::new(alloc));
-            gathered_on(alloc, list.as_slice(), none, names, made)
-        }
+        } => distinct(alloc, *is_negated, left, right, names, made),
+        Expr::Not { count, operand } => negated(alloc, *count, operand, names, made),
+        Expr::And(list) => all_of(alloc, list.as_slice(), names, made),
+        Expr::Or(list) => any_of(alloc, list.as_slice(), names, made),
     }
 }
 
 #[cycle(resolving)]
-fn boxed(
+pub(crate) fn boxed(
     alloc: Global,
     e: &Boxed<Expr>,
     names: &Names<'_>,
@@ -264,7 +172,7 @@ fn argument(
 
 // What two parts make, of which the first has been read.
 #[cycle(resolving)]
-fn second(
+pub(crate) fn second(
     alloc: Global,
     right: &Boxed<Expr>,
     left: Result<Typed, ScopeFail>,
@@ -288,7 +196,7 @@ fn second(
 }
 
 #[cycle(resolving)]
-fn gathered_on(
+pub(crate) fn gathered_on(
     alloc: Global,
     list: &[Expr],
     first: Gathering,
@@ -307,7 +215,7 @@ fn gathered_on(
 }
 
 #[cycle(resolving)]
-fn terms_on(
+pub(crate) fn terms_on(
     alloc: Global,
     terms: &[Term],
     first: Run,
@@ -326,7 +234,7 @@ fn terms_on(
 }
 
 #[cycle(resolving)]
-fn factors_on(
+pub(crate) fn factors_on(
     alloc: Global,
     factors: &[Factor],
     first: Run,
@@ -376,7 +284,7 @@ pub fn maybe_condition(
 }
 
 #[cycle(resolving)]
-fn arms_on(
+pub(crate) fn arms_on(
     alloc: Global,
     arms: &[Arm],
     operand: &Option<Ty>,

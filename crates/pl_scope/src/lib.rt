@@ -7,6 +7,7 @@ mod closing;
 mod collecting;
 mod entering;
 mod expressions;
+mod forms;
 mod gathering;
 mod made;
 mod operands;

@@ -38,23 +38,68 @@ expressions::expr-returns-in-Call t c = rw (c.in-Call.is, part_call, ← c.as_sl
 pub expressions::expr-returns-in-CountRows : goal.expressions::expr-returns-in-CountRows
 expressions::expr-returns-in-CountRows t c = rw (c.in-CountRows.is, part_count_rows) (c.count_rows.ensures)
 
-pub expressions::expr-returns-in_err-operand-in-Case : goal.expressions::expr-returns-in_err-operand-in-Case
-expressions::expr-returns-in_err-operand-in-Case t c = rw (c.in-Case.is, part_case_view) (stops _ _ _ _ _ _ c.from_residual.ensures.1 c.in_err-operand-in-Case.ensures)
+pub expressions::expr-returns-in-Subquery : goal.expressions::expr-returns-in-Subquery
+expressions::expr-returns-in-Subquery t c = rw (c.in-Subquery.is, part_subquery) c.scalar.ensures
 
-pub expressions::expr-returns-in_err-done-in-Case : goal.expressions::expr-returns-in_err-done-in-Case
-expressions::expr-returns-in_err-done-in-Case t c = rw (c.in-Case.is, part_case_view, ← c.as_slice-in-Case.ensures) (goes_on _ _ _ _ _ _ c.in_ok-operand-in-Case.ensures (rw (← c.operand_type-ty.ensures) (stops _ _ _ _ _ _ c.from_residual-in_err-done-in-Case.ensures.1 c.in_err-done-in-Case.ensures)))
+pub expressions::expr-returns-in-Exists : goal.expressions::expr-returns-in-Exists
+expressions::expr-returns-in-Exists t c = rw (c.in-Exists.is, part_exists) c.exists.ensures
 
-pub expressions::expr-returns-in_err-first-in-Product : goal.expressions::expr-returns-in_err-first-in-Product
-expressions::expr-returns-in_err-first-in-Product t c = rw (c.in-Product.is, part_product_view) (stops _ _ _ _ _ _ c.from_residual-in_err-first-in-Product.ensures.1 c.in_err-first-in-Product.ensures)
+pub expressions::expr-returns-in-Pick : goal.expressions::expr-returns-in-Pick
+expressions::expr-returns-in-Pick t c = rw (c.in-Pick.is, part_pick, ← c.as_slice-in-Pick.ensures) c.picked.ensures
 
-pub expressions::expr-returns-in_err-first-in-Sum : goal.expressions::expr-returns-in_err-first-in-Sum
-expressions::expr-returns-in_err-first-in-Sum t c = rw (c.in-Sum.is, part_sum_view) (stops _ _ _ _ _ _ c.from_residual-in_err-first-in-Sum.ensures.1 c.in_err-first-in-Sum.ensures)
+pub expressions::expr-returns-in-NullIf : goal.expressions::expr-returns-in-NullIf
+expressions::expr-returns-in-NullIf t c = rw (c.in-NullIf.is, part_null_if) c.null_if.ensures
 
-pub expressions::expr-returns-in_err-operand-in-Between : goal.expressions::expr-returns-in_err-operand-in-Between
-expressions::expr-returns-in_err-operand-in-Between t c = rw (c.in-Between.is, part_between) (stops _ _ _ _ _ _ c.from_residual-in_err-operand-in-Between.ensures.1 c.in_err-operand-in-Between.ensures)
+pub expressions::expr-returns-in-Row : goal.expressions::expr-returns-in-Row
+expressions::expr-returns-in-Row t c = rw (c.in-Row.is, part_row, ← c.as_slice-in-Row.ensures) c.row.ensures
 
-pub expressions::expr-returns-in_err-operand-in-InQuery : goal.expressions::expr-returns-in_err-operand-in-InQuery
-expressions::expr-returns-in_err-operand-in-InQuery t c = rw (c.in-InQuery.is, part_in_query) (stops _ _ _ _ _ _ c.from_residual-in_err-operand-in-InQuery.ensures.1 c.in_err-operand-in-InQuery.ensures)
+pub expressions::expr-returns-in-Case : goal.expressions::expr-returns-in-Case
+expressions::expr-returns-in-Case t c = rw (c.in-Case.is, part_case_view, ← c.as_slice-in-Case.ensures) c.case.ensures
+
+pub expressions::expr-returns-in-Cast : goal.expressions::expr-returns-in-Cast
+expressions::expr-returns-in-Cast t c = rw (c.in-Cast.is, part_cast, ← c.as_slice-in-Cast.ensures) c.cast.ensures
+
+pub expressions::expr-returns-in-Signed : goal.expressions::expr-returns-in-Signed
+expressions::expr-returns-in-Signed t c = rw (c.in-Signed.is, part_signed, ← c.as_slice-in-Signed.ensures) c.signed.ensures
+
+pub expressions::expr-returns-in-Product : goal.expressions::expr-returns-in-Product
+expressions::expr-returns-in-Product t c = rw (c.in-Product.is, part_product_view, ← c.as_slice-in-Product.ensures) c.product.ensures
+
+pub expressions::expr-returns-in-Sum : goal.expressions::expr-returns-in-Sum
+expressions::expr-returns-in-Sum t c = rw (c.in-Sum.is, part_sum_view, ← c.as_slice-in-Sum.ensures) c.sum.ensures
+
+pub expressions::expr-returns-in-Concat : goal.expressions::expr-returns-in-Concat
+expressions::expr-returns-in-Concat t c = rw (c.in-Concat.is, part_concat, ← c.as_slice-in-Concat.ensures) c.concat.ensures
+
+pub expressions::expr-returns-in-Between : goal.expressions::expr-returns-in-Between
+expressions::expr-returns-in-Between t c = rw (c.in-Between.is, part_between) c.between.ensures
+
+pub expressions::expr-returns-in-InList : goal.expressions::expr-returns-in-InList
+expressions::expr-returns-in-InList t c = rw (c.in-InList.is, part_in_list, ← c.as_slice-in-InList.ensures) c.in_list.ensures
+
+pub expressions::expr-returns-in-InQuery : goal.expressions::expr-returns-in-InQuery
+expressions::expr-returns-in-InQuery t c = rw (c.in-InQuery.is, part_in_query) c.in_query.ensures
+
+pub expressions::expr-returns-in-Like : goal.expressions::expr-returns-in-Like
+expressions::expr-returns-in-Like t c = rw (c.in-Like.is, part_like) c.like.ensures
+
+pub expressions::expr-returns-in-Compare : goal.expressions::expr-returns-in-Compare
+expressions::expr-returns-in-Compare t c = rw (c.in-Compare.is, part_compare) c.compared.ensures
+
+pub expressions::expr-returns-in-Is : goal.expressions::expr-returns-in-Is
+expressions::expr-returns-in-Is t c = rw (c.in-Is.is, part_is) c.asked.ensures
+
+pub expressions::expr-returns-in-IsDistinct : goal.expressions::expr-returns-in-IsDistinct
+expressions::expr-returns-in-IsDistinct t c = rw (c.in-IsDistinct.is, part_is_distinct) c.distinct.ensures
+
+pub expressions::expr-returns-in-Not : goal.expressions::expr-returns-in-Not
+expressions::expr-returns-in-Not t c = rw (c.in-Not.is, part_not) c.negated.ensures
+
+pub expressions::expr-returns-in-And : goal.expressions::expr-returns-in-And
+expressions::expr-returns-in-And t c = rw (c.in-And.is, part_and, ← c.as_slice-in-And.ensures) c.all_of.ensures
+
+pub expressions::expr-returns-in-Or : goal.expressions::expr-returns-in-Or
+expressions::expr-returns-in-Or t c = rw (c.in-Or.is, part_or, ← c.as_slice-in-Or.ensures) c.any_of.ensures
 
 pub expressions::arguments_on-returns-in_err-typed : goal.expressions::arguments_on-returns-in_err-typed
 expressions::arguments_on-returns-in_err-typed t c = rw (next (λ l. arguments_on (map argument_part l) c.loop-part.done (around c.args.names.now) c.loop-part.made) c.args.list.now c.loop-part.part-index c.part-item.result _ c.loop-part-test.true c.part-item.is c.loop-part.invariant) (stops _ _ _ _ _ _ c.from_residual.ensures.1 c.in_err-typed.ensures)
@@ -161,39 +206,6 @@ expressions::call-returns-in_ok-all-in-Some t c =
     = first_of (search rules, grind (arith, common_steps)) in
     aggregate_called c.args.name parts a made more kind all c.len-since.result c.collect.result c.collect.new.made named since arguments meets
 
-pub expressions::expr-returns-in-Pick : goal.expressions::expr-returns-in-Pick
-expressions::expr-returns-in-Pick t c = rw (c.in-Pick.is, part_pick, ← c.as_slice-in-Pick.ensures) (pick_meets _ (map part c.as_slice-in-Pick.result.now) c.new.result (around c.args.names.now) c.args.made.now c.gathered_on.result c.gathered_on.new.made c.new.ensures c.gathered_on.ensures)
-
-pub expressions::expr-returns-in-NullIf : goal.expressions::expr-returns-in-NullIf
-expressions::expr-returns-in-NullIf t c = rw (c.in-NullIf.is, part_null_if) (c.second.ensures _ c.boxed-left.ensures)
-
-pub expressions::expr-returns-in-Row : goal.expressions::expr-returns-in-Row
-expressions::expr-returns-in-Row t c = rw (c.in-Row.is, part_row, ← c.as_slice-in-Row.ensures) (row_meets (map part c.as_slice-in-Row.result.now) c.new-in-Row.result (around c.args.names.now) c.args.made.now c.gathered_on-in-Row.result c.gathered_on-in-Row.new.made c.new-in-Row.ensures c.gathered_on-in-Row.ensures)
-
-pub expressions::expr-returns-in_ok-first-in-Product : goal.expressions::expr-returns-in_ok-first-in-Product
-expressions::expr-returns-in_ok-first-in-Product t c = rw (c.in-Product.is, part_product_view, ← c.as_slice-in-Product.ensures) (chain_meets _ (map factor_view c.as_slice-in-Product.result.now) (around c.args.names.now) _ _ c.new-run.result c.factors_on.result c.factors_on.new.made c.in_ok-first-in-Product.ensures c.new-run.ensures c.factors_on.ensures)
-
-pub expressions::expr-returns-in_ok-first-in-Sum : goal.expressions::expr-returns-in_ok-first-in-Sum
-expressions::expr-returns-in_ok-first-in-Sum t c = rw (c.in-Sum.is, part_sum_view, ← c.as_slice-in-Sum.ensures) (chain_meets _ (map term_view c.as_slice-in-Sum.result.now) (around c.args.names.now) _ _ c.new-run-in-Sum.result c.terms_on.result c.terms_on.new.made c.in_ok-first-in-Sum.ensures c.new-run-in-Sum.ensures c.terms_on.ensures)
-
-pub expressions::expr-returns-in-Concat : goal.expressions::expr-returns-in-Concat
-expressions::expr-returns-in-Concat t c = rw (c.in-Concat.is, part_concat, ← c.as_slice-in-Concat.ensures) (concat_meets (map part c.as_slice-in-Concat.result.now) (around c.args.names.now) c.args.made.now c.gathered_on-in-Concat.result c.gathered_on-in-Concat.new.made c.gathered_on-in-Concat.ensures)
-
-pub expressions::expr-returns-in_ok-operand-in-Between : goal.expressions::expr-returns-in_ok-operand-in-Between
-expressions::expr-returns-in_ok-operand-in-Between t c = rw (c.in-Between.is, part_between) (goes_on _ _ _ _ _ _ c.in_ok-operand-in-Between.ensures (c.second-in-Between.ensures _ c.boxed-low.ensures))
-
-pub expressions::expr-returns-in-Compare : goal.expressions::expr-returns-in-Compare
-expressions::expr-returns-in-Compare t c = rw (c.in-Compare.is, part_compare) (c.second-in-Compare.ensures _ c.boxed-left-in-Compare.ensures)
-
-pub expressions::expr-returns-in-IsDistinct : goal.expressions::expr-returns-in-IsDistinct
-expressions::expr-returns-in-IsDistinct t c = rw (c.in-IsDistinct.is, part_is_distinct) (c.second-in-IsDistinct.ensures _ c.boxed-left-in-IsDistinct.ensures)
-
-pub expressions::expr-returns-in-And : goal.expressions::expr-returns-in-And
-expressions::expr-returns-in-And t c = rw (c.in-And.is, part_and, ← c.as_slice-in-And.ensures) (and_meets (map part c.as_slice-in-And.result.now) c.new-in-And.result (around c.args.names.now) c.args.made.now c.gathered_on-in-And.result c.gathered_on-in-And.new.made c.new-in-And.ensures c.gathered_on-in-And.ensures)
-
-pub expressions::expr-returns-in-Or : goal.expressions::expr-returns-in-Or
-expressions::expr-returns-in-Or t c = rw (c.in-Or.is, part_or, ← c.as_slice-in-Or.ensures) (or_meets (map part c.as_slice-in-Or.result.now) c.new-in-Or.result (around c.args.names.now) c.args.made.now c.gathered_on-in-Or.result c.gathered_on-in-Or.new.made c.new-in-Or.ensures c.gathered_on-in-Or.ensures)
-
 pub expressions::second-returns-in_err-right-in-Ok : goal.expressions::second-returns-in_err-right-in-Ok
 expressions::second-returns-in_err-right-in-Ok t c = continues_ok _ _ _ _ _ _ c.in-Ok.is (stops _ _ _ _ _ _ c.from_residual.ensures.1 c.in_err-right-in-Ok.ensures)
 
@@ -245,39 +257,6 @@ expressions::maybe_condition-returns t c = condition_meets (option_map part c.ar
 pub queries::maybe_limit-returns : goal.queries::maybe_limit-returns
 queries::maybe_limit-returns t c = limit_meets (option_map part c.args.e.now) (around c.args.names.now) c.args.made.now c.limit_if.result c.maybe-count.new.made (c.limit_if.ensures _ _ c.maybe-count.ensures)
 
-pub expressions::expr-returns-in-Subquery : goal.expressions::expr-returns-in-Subquery
-expressions::expr-returns-in-Subquery t c = rw (c.in-Subquery.is, part_subquery, ← c.get.ensures) (c.scalar_of.ensures _ _ c.query-inner.ensures)
-
-pub expressions::expr-returns-in-Exists : goal.expressions::expr-returns-in-Exists
-expressions::expr-returns-in-Exists t c = rw (c.in-Exists.is, part_exists, ← c.get-in-Exists.ensures) (c.exists_of.ensures _ _ c.query-inner-in-Exists.ensures)
-
-pub expressions::expr-returns-in_ok-done-in-Case : goal.expressions::expr-returns-in_ok-done-in-Case
-expressions::expr-returns-in_ok-done-in-Case t c = rw (c.in-Case.is, part_case_view, ← c.as_slice-in-Case.ensures) (goes_on _ _ _ _ _ _ c.in_ok-operand-in-Case.ensures (rw (← c.operand_type-ty.ensures, ← c.tree_of.ensures) (goes_on _ _ _ _ _ _ c.in_ok-done-in-Case.ensures (c.cased.ensures _ _ c.maybe-otherwise.ensures))))
-
-pub expressions::expr-returns-in-Cast : goal.expressions::expr-returns-in-Cast
-expressions::expr-returns-in-Cast t c = rw (c.in-Cast.is, part_cast, ← c.as_slice-in-Cast.ensures) (c.cast_known.ensures _ _ c.boxed-operand.ensures)
-
-pub expressions::expr-returns-in-Signed : goal.expressions::expr-returns-in-Signed
-expressions::expr-returns-in-Signed t c = rw (c.in-Signed.is, part_signed, ← c.as_slice-in-Signed.ensures) (c.signed_of.ensures _ _ c.boxed-operand-in-Signed.ensures)
-
-pub expressions::expr-returns-in-Is : goal.expressions::expr-returns-in-Is
-expressions::expr-returns-in-Is t c = rw (c.in-Is.is, part_is) (c.asked_of.ensures _ _ c.boxed-operand-in-Is.ensures)
-
-pub expressions::expr-returns-in-Not : goal.expressions::expr-returns-in-Not
-expressions::expr-returns-in-Not t c = rw (c.in-Not.is, part_not) (c.negated_of.ensures _ _ c.boxed-operand-in-Not.ensures)
-
-pub expressions::expr-returns-in_ok-operand-in-InQuery : goal.expressions::expr-returns-in_ok-operand-in-InQuery
-expressions::expr-returns-in_ok-operand-in-InQuery t c = rw (c.in-InQuery.is, part_in_query, ← c.get-in-InQuery.ensures) (goes_on _ _ _ _ _ _ c.in_ok-operand-in-InQuery.ensures (c.in_query_of.ensures _ _ c.query-inner-in-InQuery.ensures))
-
-pub expressions::expr-returns-in_err-first-in-InList : goal.expressions::expr-returns-in_err-first-in-InList
-expressions::expr-returns-in_err-first-in-InList t c = rw (c.in-InList.is, part_in_list) (in_list_stops _ _ (map part c.in-InList.list) c.new-in-InList.result (around c.args.names.now) c.boxed-operand-in-InList.new.made _ _ c.boxed-operand-in-InList.new.made c.new-in-InList.ensures c.from_residual-in_err-first-in-InList.ensures.1 (c.in_err-first-in-InList.ensures _ _ c.boxed-operand-in-InList.ensures))
-
-pub expressions::expr-returns-in_ok-first-in-InList : goal.expressions::expr-returns-in_ok-first-in-InList
-expressions::expr-returns-in_ok-first-in-InList t c = rw (c.in-InList.is, part_in_list, ← c.as_slice-in-InList.ensures) (in_list_goes _ _ (map part c.as_slice-in-InList.result.now) c.new-in-InList.result (around c.args.names.now) c.boxed-operand-in-InList.new.made c.gathered_on-in-InList.result _ c.gathered_on-in-InList.new.made c.new-in-InList.ensures (c.in_ok-first-in-InList.ensures _ _ c.boxed-operand-in-InList.ensures) c.gathered_on-in-InList.ensures)
-
-pub expressions::expr-returns-in-Like : goal.expressions::expr-returns-in-Like
-expressions::expr-returns-in-Like t c = rw (c.in-Like.is, part_like) (c.second-in-Like.ensures _ c.boxed-operand-in-Like.ensures)
-
 pub queries::from-returns-in-Function : goal.queries::from-returns-in-Function
 queries::from-returns-in-Function t c = rw (c.in-Function.is, from_function, ← c.as_slice.ensures) (c.valued_of.ensures _ _ c.call-value.ensures)
 
@@ -304,3 +283,87 @@ queries::join_on-returns t c = let row = rw (c.len.ensures) at c.in_ok-at.ensure
 
 pub expressions::boxed-returns : goal.expressions::boxed-returns
 expressions::boxed-returns t c = rw (← c.get.ensures) c.expr.ensures
+
+pub forms::cast-returns : goal.forms::cast-returns
+forms::cast-returns t c = c.cast_known.ensures _ _ c.boxed-operand.ensures
+
+pub forms::signed-returns : goal.forms::signed-returns
+forms::signed-returns t c = c.signed_of.ensures _ _ c.boxed-operand.ensures
+
+pub forms::asked-returns : goal.forms::asked-returns
+forms::asked-returns t c = c.asked_of.ensures _ _ c.boxed-operand.ensures
+
+pub forms::negated-returns : goal.forms::negated-returns
+forms::negated-returns t c = c.negated_of.ensures _ _ c.boxed-operand.ensures
+
+pub forms::null_if-returns : goal.forms::null_if-returns
+forms::null_if-returns t c = c.second.ensures _ c.boxed-left.ensures
+
+pub forms::like-returns : goal.forms::like-returns
+forms::like-returns t c = c.second.ensures _ c.boxed-operand.ensures
+
+pub forms::compared-returns : goal.forms::compared-returns
+forms::compared-returns t c = c.second.ensures _ c.boxed-left.ensures
+
+pub forms::distinct-returns : goal.forms::distinct-returns
+forms::distinct-returns t c = c.second.ensures _ c.boxed-left.ensures
+
+pub forms::between-returns-in_err-operand : goal.forms::between-returns-in_err-operand
+forms::between-returns-in_err-operand t c = stops _ _ _ _ _ _ c.from_residual.ensures.1 c.in_err-operand.ensures
+
+pub forms::between-returns : goal.forms::between-returns
+forms::between-returns t c = goes_on _ _ _ _ _ _ c.in_ok-operand.ensures (c.second.ensures _ c.boxed-low.ensures)
+
+pub forms::product-returns-in_err-first : goal.forms::product-returns-in_err-first
+forms::product-returns-in_err-first t c = stops _ _ _ _ _ _ c.from_residual.ensures.1 c.in_err-first.ensures
+
+pub forms::product-returns : goal.forms::product-returns
+forms::product-returns t c = chain_meets _ (map factor_view c.args.factors.now) (around c.args.names.now) _ _ c.new-run.result c.factors_on.result c.factors_on.new.made c.in_ok-first.ensures c.new-run.ensures c.factors_on.ensures
+
+pub forms::sum-returns-in_err-first : goal.forms::sum-returns-in_err-first
+forms::sum-returns-in_err-first t c = stops _ _ _ _ _ _ c.from_residual.ensures.1 c.in_err-first.ensures
+
+pub forms::sum-returns : goal.forms::sum-returns
+forms::sum-returns t c = chain_meets _ (map term_view c.args.terms.now) (around c.args.names.now) _ _ c.new-run.result c.terms_on.result c.terms_on.new.made c.in_ok-first.ensures c.new-run.ensures c.terms_on.ensures
+
+pub forms::picked-returns : goal.forms::picked-returns
+forms::picked-returns t c = pick_meets _ (map part c.args.list.now) c.new.result (around c.args.names.now) c.args.made.now c.gathered_on.result c.gathered_on.new.made c.new.ensures c.gathered_on.ensures
+
+pub forms::in_list-returns-in_err-first : goal.forms::in_list-returns-in_err-first
+forms::in_list-returns-in_err-first t c = in_list_stops _ _ (map part c.args.list.now) c.new.result (around c.args.names.now) c.boxed-operand.new.made _ _ c.boxed-operand.new.made c.new.ensures c.from_residual.ensures.1 (c.in_err-first.ensures _ _ c.boxed-operand.ensures)
+
+pub forms::in_list-returns : goal.forms::in_list-returns
+forms::in_list-returns t c = in_list_goes _ _ (map part c.args.list.now) c.new.result (around c.args.names.now) c.boxed-operand.new.made c.gathered_on.result _ c.gathered_on.new.made c.new.ensures (c.in_ok-first.ensures _ _ c.boxed-operand.ensures) c.gathered_on.ensures
+
+pub forms::row-returns : goal.forms::row-returns
+forms::row-returns t c = row_meets (map part c.args.list.now) c.new.result (around c.args.names.now) c.args.made.now c.gathered_on.result c.gathered_on.new.made c.new.ensures c.gathered_on.ensures
+
+pub forms::concat-returns : goal.forms::concat-returns
+forms::concat-returns t c = concat_meets (map part c.args.list.now) (around c.args.names.now) c.args.made.now c.gathered_on.result c.gathered_on.new.made c.gathered_on.ensures
+
+pub forms::all_of-returns : goal.forms::all_of-returns
+forms::all_of-returns t c = and_meets (map part c.args.list.now) c.new.result (around c.args.names.now) c.args.made.now c.gathered_on.result c.gathered_on.new.made c.new.ensures c.gathered_on.ensures
+
+pub forms::any_of-returns : goal.forms::any_of-returns
+forms::any_of-returns t c = or_meets (map part c.args.list.now) c.new.result (around c.args.names.now) c.args.made.now c.gathered_on.result c.gathered_on.new.made c.new.ensures c.gathered_on.ensures
+
+pub forms::scalar-returns : goal.forms::scalar-returns
+forms::scalar-returns t c = rw (← c.get.ensures) (c.scalar_of.ensures _ _ c.query-inner.ensures)
+
+pub forms::exists-returns : goal.forms::exists-returns
+forms::exists-returns t c = rw (← c.get.ensures) (c.exists_of.ensures _ _ c.query-inner.ensures)
+
+pub forms::in_query-returns-in_err-operand : goal.forms::in_query-returns-in_err-operand
+forms::in_query-returns-in_err-operand t c = stops _ _ _ _ _ _ c.from_residual.ensures.1 c.in_err-operand.ensures
+
+pub forms::in_query-returns : goal.forms::in_query-returns
+forms::in_query-returns t c = rw (← c.get.ensures) (goes_on _ _ _ _ _ _ c.in_ok-operand.ensures (c.in_query_of.ensures _ _ c.query-inner.ensures))
+
+pub forms::case-returns-in_err-operand : goal.forms::case-returns-in_err-operand
+forms::case-returns-in_err-operand t c = stops _ _ _ _ _ _ c.from_residual.ensures.1 c.in_err-operand.ensures
+
+pub forms::case-returns-in_err-done : goal.forms::case-returns-in_err-done
+forms::case-returns-in_err-done t c = goes_on _ _ _ _ _ _ c.in_ok-operand.ensures (rw (← c.operand_type-ty.ensures) (stops _ _ _ _ _ _ c.from_residual-in_err-done.ensures.1 c.in_err-done.ensures))
+
+pub forms::case-returns : goal.forms::case-returns
+forms::case-returns t c = goes_on _ _ _ _ _ _ c.in_ok-operand.ensures (rw (← c.operand_type-ty.ensures, ← c.tree_of.ensures) (goes_on _ _ _ _ _ _ c.in_ok-done.ensures (c.cased.ensures _ _ c.maybe-otherwise.ensures)))
