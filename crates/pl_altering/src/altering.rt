@@ -110,7 +110,7 @@ pub fn alter<P: Port, R: BodyRunner>(
         engine.old engine.new port.old port.new }
     ensures keeps { OnOk result (kept engine.new ≡ kept engine.old) }
 {
-    match resolve_into(engine, c, into) {
+    match resolve_into(engine, at, c, into) {
         Ok(a) => alter_resolved(calls, engine, port, at, into, &a),
         Err(ScopeFail::State(state)) => Ok(engine.raise(state, at)),
         Err(ScopeFail::Memory) => Err(Stop::Memory),

@@ -2,40 +2,23 @@
 //! Substitution".
 
 ghost use Rattle.std.specs.Prelude.{◌≡◌};
-ghost use Rattle.pl_querying.specs.pl_engine.Engines.{world};
+ghost use Rattle.pl_querying.specs.pl_engine.Engines.{kept, world};
 ghost use Rattle.pl_typing.specs.Resolved.{Gives};
 ghost use Rattle.pl_world.specs.Commands.{altering};
-ghost use Rattle.pl_world.specs.Resolving.{changing};
 ghost use Rattle.pl_world.specs.Statements.{targets_in};
 
-use pl_base::{Held, List};
+use pl_base::{List, Shared};
 use pl_bodies::{Change, IntoClause, Target};
 use pl_querying::pl_asking::{Variable, aim_all};
-use pl_querying::pl_engine::Engine;
-use pl_targets::{RChange, resolve_delete, resolve_insert, resolve_update};
+use pl_querying::pl_engine::{Engine, Spot};
+use pl_targets::RChange;
 use pl_typing::ScopeFail;
 use std::marker::Model;
-
-/// A change of a table, with its names and types resolved.
-#[tactic(auto, unfolding(pl_world::specs::Resolving::changing))]
-fn resolve(engine: &Engine, c: &Change) -> Result<Held<RChange>, ScopeFail>
-    ensures { Gives result (changing c.now (world engine.now).database.objects
-        (world engine.now).frame.static) }
-{
-    let alloc = engine.alloc();
-    let catalog = engine.journal().catalog();
-    let scope = engine.declared().scope();
-    match c {
-        Change::Insert(i) => Ok(Held::new(resolve_insert(alloc, catalog, scope, i)?)),
-        Change::Update(u) => Ok(Held::new(resolve_update(alloc, catalog, scope, u)?)),
-        Change::Delete(d) => Ok(Held::new(resolve_delete(alloc, catalog, scope, d)?)),
-    }
-}
 
 /// A change, and the variables into which a row of its RETURNING goes.
 #[derive(Drop)]
 pub(crate) struct Altering {
-    change: RChange,
+    change: Shared<RChange>,
     into: List<Variable>,
 }
 
@@ -56,7 +39,7 @@ impl Altering {
     pub(crate) fn change(&self) -> &RChange
         ensures { result.now ≡ self.now.change }
     {
-        &self.change
+        self.change.get()
     }
 
     /// The variables, from left to right.
@@ -80,17 +63,17 @@ fn targets_of(into: &Option<IntoClause>) -> &[Target]
 /// A change is resolved, and then the targets of its INTO.
 #[tactic(auto, unfolding(pl_world::specs::Commands::altering))]
 pub(crate) fn resolve_into(
-    engine: &Engine,
+    engine: &mut Engine,
+    at: Spot,
     c: &Change,
     into: &Option<IntoClause>,
 ) -> Result<Altering, ScopeFail>
-    ensures { Gives result (altering c.now (targets_in into.now)
-        (world engine.now).database.objects (world engine.now).frame.static) }
+    ensures gives { Gives result (altering c.now (targets_in into.now)
+        (world engine.old).database.objects (world engine.old).frame.static) }
+    ensures is { world engine.new ≡ world engine.old }
+    ensures keeps { kept engine.new ≡ kept engine.old }
 {
-    let change = resolve(engine, c)?;
-    let into = aim_all(engine, targets_of(into))?;
-    Ok(Altering {
-        change: change.into_inner(),
-        into,
-    })
+    let change = engine.resolve_change(at, c)?;
+    let into = aim_all(&*engine, targets_of(into))?;
+    Ok(Altering { change, into })
 }

@@ -12,7 +12,7 @@ ghost use Rattle.pl_world.specs.Expressions.{evaluated};
 ghost use Rattle.pl_world.specs.Statements.{runner_for};
 
 use crate::answers::value_of;
-use crate::resolving::{find, read};
+use crate::resolving::find;
 use pl_base::{Boxed, Ty, Value};
 use pl_bodies::{CaseArm, Otherwise};
 use pl_calling::pl_engine::{BodyRunner, Calls, Engine, Port, Runner, Spot, Stop, Task, all};
@@ -150,7 +150,7 @@ where
         engine.old engine.new port.old port.new }
     ensures keeps { OnOk result (kept engine.new ≡ kept engine.old) }
 {
-    match read(engine, operand) {
+    match engine.resolve_expr(at, operand) {
         Ok(e) => try_value(runner, bodies, engine, port, at, e.get(), arms, otherwise),
         Err(ScopeFail::State(state)) => Ok(engine.raise(state, at)),
         Err(ScopeFail::Memory) => Err(Stop::Memory),

@@ -2,7 +2,7 @@
 //! Substitution".
 
 ghost use Rattle.std.specs.Prelude.{◌≡◌, [], map, IfOk};
-ghost use Rattle.pl_calling.specs.pl_engine.Engines.{world};
+ghost use Rattle.pl_calling.specs.pl_engine.Engines.{kept, world};
 ghost use Rattle.pl_calling.specs.pl_names.Names as meanings;
 ghost use Rattle.pl_calling.specs.pl_names.Names.{around};
 ghost use Rattle.pl_resolved.specs.declared.expression.RExpr.TheVariants.{Place};
@@ -15,33 +15,29 @@ ghost use Rattle.pl_world.specs.Resolving as spec;
 ghost use Rattle.pl_world.specs.Variables.{variables_of};
 
 use crate::variable::Variable;
-use pl_base::{Held, List, Memory, Name, State, Ty};
+use pl_base::{Held, List, Memory, Name, Shared, State, Ty};
 use pl_bodies::{Target, VariableType};
-use pl_calling::pl_engine::Engine;
+use pl_calling::pl_engine::{Engine, Spot};
 use pl_calling::pl_names::{Level, Meaning, Names, Visible, name_means, qualified_means};
-use pl_direct::pl_scope::{Made, ResolvedExpr, behind, expr, inside, resolve_expr};
+use pl_direct::pl_scope::{Made, ResolvedExpr, behind, expr, inside};
 use pl_resolved::RExpr;
 use pl_tree::Expr;
 use pl_typing::{Listed, ScopeFail, Typed, in_list, with_type};
 use std::alloc::Global;
 
-/// An expression, of whatever type.
-#[tactic(auto, unfolding(pl_world::specs::Resolving::reading))]
-pub(crate) fn read(engine: &Engine, e: &Expr) -> Result<Held<ResolvedExpr>, ScopeFail>
-    ensures { Gives result (spec.reading e.now (world engine.now).database.objects
-        (world engine.now).frame.static) }
-{
-    let catalog = engine.journal().catalog();
-    Ok(Held::new(resolve_expr(engine.alloc(), catalog, engine.declared().scope(), e)?))
-}
-
 /// What RETURN gives. 42804 where no value is due.
 #[tactic(auto, unfolding(pl_world::specs::Resolving::giving))]
-pub(crate) fn give(engine: &Engine, e: &Expr) -> Result<Held<ResolvedExpr>, ScopeFail>
-    ensures { Gives result (spec.giving e.now (world engine.now).database.objects
-        (world engine.now).frame.static) }
+pub(crate) fn give(
+    engine: &mut Engine,
+    at: Spot,
+    e: &Expr,
+) -> Result<Shared<ResolvedExpr>, ScopeFail>
+    ensures gives { Gives result (spec.giving e.now (world engine.old).database.objects
+        (world engine.old).frame.static) }
+    ensures is { world engine.new ≡ world engine.old }
+    ensures keeps { kept engine.new ≡ kept engine.old }
 {
-    let e = read(engine, e)?;
+    let e = engine.resolve_expr(at, e)?;
     match engine.declared().result() {
         Some(_) => Ok(e),
         None => Err(ScopeFail::State(State::DATATYPE_MISMATCH)),

@@ -14,8 +14,8 @@ ghost use Rattle.pl_world.specs.Expressions.{evaluated};
 ghost use Rattle.pl_world.specs.Statements.{runner_for};
 
 use crate::direct::{given_at_once, value_at_once};
-use crate::resolving::{give, read};
-use pl_base::{Boxed, Held, Value};
+use crate::resolving::give;
+use pl_base::{Boxed, Shared, Value};
 use pl_calling::evaluate;
 use pl_calling::pl_engine::{BodyRunner, Calls, Engine, Port, Spot, Stop};
 use pl_direct::pl_scope::ResolvedExpr;
@@ -29,7 +29,7 @@ fn evaluate_it<P: Port, R: BodyRunner>(
     engine: &mut Engine,
     port: &mut P,
     at: Spot,
-    e: Result<Held<ResolvedExpr>, ScopeFail>,
+    e: Result<Shared<ResolvedExpr>, ScopeFail>,
 ) -> Result<Outcome, Stop>
     requires room { (world engine.old).steps ≤ calls.now.room }
     requires fits { P.fits (world engine.old).last port.old }
@@ -68,7 +68,7 @@ pub fn value<P: Port, R: BodyRunner>(
     match value_at_once(&*engine, e) {
         Some(v) => Ok(Outcome::Return(v)),
         None => {
-            let e = read(engine, e);
+            let e = engine.resolve_expr(at, e);
             evaluate_it(calls, engine, port, at, e)
         }
     }
@@ -121,7 +121,7 @@ pub fn returns<P: Port, R: BodyRunner>(
     match given_at_once(&*engine, due) {
         Some(v) => Ok(Outcome::Return(v)),
         None => {
-            let e = give(engine, due);
+            let e = give(engine, at, due);
             evaluate_it(calls, engine, port, at, e)
         }
     }

@@ -136,6 +136,12 @@ module _ {P : Type 0} {port : Ghosts P} (law : Lawful port) where
       → Partway port whole rest old new p q
   quietly {O} {whole} {rest} {old} {mid} {new} {p} {q} w steps last = further w (record { events = []; goes_on = behind_none rest; told = told_quiet [] mid new q w.told.fits refl last (omega (arith, steps)) })
 
+  -- the engine changed, and stands for the same world
+  pub same_world : {O : Type 0} {whole rest : Ran O} {old mid new : Engine} {p q : P} → Partway port whole rest old mid p q → world new ≡ world mid → (k : World → Ran O) → rest ≡ k (world mid)
+      → Partway port whole (k (world new)) old new p q
+  same_world {O} {whole} {rest} {old} {mid} {new} {p} {q} w same k is =
+      subst (λ (r : Ran O). Partway port whole r old new p q) (is ∙ ap k (sym same)) (quietly w (ap (λ (x : World). x.steps) same) (ap (λ (x : World). x.last) same))
+
   -- the rest may be written otherwise
   pub becomes : {O : Type 0} {whole rest rest' : Ran O} {old mid : Engine} {p q : P} → Partway port whole rest old mid p q → rest ≡ rest' → Partway port whole rest' old mid p q
   becomes {O} {whole} {rest} {rest'} {old} {mid} {p} {q} w is = subst (λ (r : Ran O). Partway port whole r old mid p q) is w

@@ -6,6 +6,7 @@ ghost use Rattle.pl_world.specs.Sessions.{new_world, with_steps};
 
 use crate::call::Call;
 use pl_base::Name;
+use pl_planned::PlannedJournal;
 use pl_variables::Frames;
 use pl_world::pl_journal::Journal;
 use std::alloc::Global;
@@ -15,7 +16,7 @@ use std::alloc::Global;
 pub struct Engine {
     pub(crate) alloc: Global,
     /// It has a mark for each block with handlers that runs its statements, and for each savepoint.
-    pub(crate) journal: Journal,
+    pub(crate) journal: PlannedJournal,
     pub(crate) frames: Frames<Call>,
     /// The steps that are left.
     pub(crate) steps: u64,
@@ -34,7 +35,7 @@ impl Engine {
     {
         Engine {
             alloc,
-            journal,
+            journal: PlannedJournal::new(alloc, journal),
             frames: Frames::new(alloc, Call::none(alloc)),
             steps: 0,
             in_block: false,
@@ -52,7 +53,7 @@ impl Engine {
         ensures now { result.now.now ≡ (world self.now).database }
         ensures last { result.now.last ≡ (world self.now).last }
     {
-        &self.journal
+        self.journal.journal()
     }
 
     /// The steps that are left.

@@ -35,7 +35,7 @@ pub fn commit<P: Port>(engine: &mut Engine, port: &mut P) -> Result<Outcome, Sto
     ensures memory { IsErrOf result Memory → P.took (world engine.old).last [] port.old port.new }
     ensures keeps { OnOk result (kept engine.new ≡ kept engine.old) }
 {
-    match port.commit(&engine.journal) {
+    match port.commit(engine.journal.journal()) {
         Ok(()) => {
             engine.journal.seal();
             Ok(Outcome::Next)

@@ -9,7 +9,6 @@ ghost use Rattle.pl_world.specs.Errors.{resolved};
 ghost use Rattle.pl_world.specs.Resolving.{querying};
 ghost use Rattle.pl_world.specs.Statements.{runner_for};
 
-use crate::resolving::resolve;
 use pl_asking::pl_calling::query;
 use pl_asking::pl_engine::{BodyRunner, Calls, Engine, Port, Spot, Stop};
 use pl_base::List;
@@ -64,7 +63,7 @@ pub fn perform<P: Port, R: BodyRunner>(
         engine.old engine.new port.old port.new }
     ensures keeps { OnOk result (kept engine.new ≡ kept engine.old) }
 {
-    match resolve(engine, q) {
+    match engine.resolve_query(at, q) {
         Ok(queries) => count_rows(calls, engine, port, at, queries.get()),
         Err(ScopeFail::State(state)) => Ok(engine.raise(state, at)),
         Err(ScopeFail::Memory) => Err(Stop::Memory),

@@ -2,35 +2,23 @@
 //! Substitution".
 
 ghost use Rattle.std.specs.Prelude.{◌≡◌};
-ghost use Rattle.pl_asking.specs.pl_engine.Engines.{world};
+ghost use Rattle.pl_asking.specs.pl_engine.Engines.{kept, world};
 ghost use Rattle.pl_typing.specs.Resolved.{Gives};
 ghost use Rattle.pl_world.specs.Commands.{selecting};
-ghost use Rattle.pl_world.specs.Resolving.{querying};
 
-use pl_asking::pl_engine::Engine;
-use pl_asking::pl_scope::resolve_query;
+use pl_asking::pl_engine::{Engine, Spot};
 use pl_asking::{Variable, aim_all};
-use pl_base::{Held, List};
+use pl_base::{List, Shared};
 use pl_bodies::Target;
 use pl_resolved::RQuery;
 use pl_tree::Query;
 use pl_typing::ScopeFail;
 use std::marker::Model;
 
-/// A query with those inside it.
-#[tactic(auto, unfolding(pl_world::specs::Resolving::querying))]
-pub(crate) fn resolve(engine: &Engine, q: &Query) -> Result<Held<List<RQuery>>, ScopeFail>
-    ensures { Gives result (querying q.now (world engine.now).database.objects
-        (world engine.now).frame.static) }
-{
-    let catalog = engine.journal().catalog();
-    Ok(Held::new(resolve_query(engine.alloc(), catalog, engine.declared().scope(), q)?))
-}
-
 /// A query whose row goes into variables.
 #[derive(Drop)]
 pub(crate) struct IntoQuery {
-    queries: List<RQuery>,
+    queries: Shared<List<RQuery>>,
     into: List<Variable>,
 }
 
@@ -51,7 +39,7 @@ impl IntoQuery {
     pub(crate) fn queries(&self) -> &List<RQuery>
         ensures { result.now ≡ self.now.queries }
     {
-        &self.queries
+        self.queries.get()
     }
 
     /// The variables, from left to right.
@@ -65,17 +53,17 @@ impl IntoQuery {
 /// The query of a SELECT INTO is resolved, and then its targets.
 #[tactic(auto, unfolding(pl_world::specs::Commands::selecting))]
 pub(crate) fn resolve_into(
-    engine: &Engine,
+    engine: &mut Engine,
+    at: Spot,
     q: &Query,
     targets: &[Target],
 ) -> Result<IntoQuery, ScopeFail>
-    ensures { Gives result (selecting q.now targets.now (world engine.now).database.objects
-        (world engine.now).frame.static) }
+    ensures gives { Gives result (selecting q.now targets.now (world engine.old).database.objects
+        (world engine.old).frame.static) }
+    ensures is { world engine.new ≡ world engine.old }
+    ensures keeps { kept engine.new ≡ kept engine.old }
 {
-    let queries = resolve(engine, q)?;
-    let into = aim_all(engine, targets)?;
-    Ok(IntoQuery {
-        queries: queries.into_inner(),
-        into,
-    })
+    let queries = engine.resolve_query(at, q)?;
+    let into = aim_all(&*engine, targets)?;
+    Ok(IntoQuery { queries, into })
 }

@@ -62,7 +62,7 @@ pub(crate) fn select_into<P: Port, R: BodyRunner>(
         engine.old engine.new port.old port.new }
     ensures keeps { OnOk result (kept engine.new ≡ kept engine.old) }
 {
-    match resolve_into(engine, q, clause.targets.as_slice()) {
+    match resolve_into(engine, at, q, clause.targets.as_slice()) {
         Ok(s) => select(calls, engine, port, at, clause.is_strict, &s),
         Err(ScopeFail::State(state)) => Ok(engine.raise(state, at)),
         Err(ScopeFail::Memory) => Err(Stop::Memory),

@@ -1,6 +1,6 @@
 use Rattle.std.proofs.Common.{◌∙◌, Err, List, Result, ap, refl, subst, sym}
 use Rattle.pl_asking.proofs.Acts.{resolved_err, resolved_ok}
-use Rattle.pl_asking.proofs.of_pl_engine.Joins.{acted, answered, becomes, before, lawful, start}
+use Rattle.pl_asking.proofs.of_pl_engine.Joins.{acted, answered, becomes, before, lawful, same_world, start}
 use Rattle.pl_asking.specs.pl_engine.Engines.{world}
 use Rattle.pl_asking.specs.pl_engine.Texts.{do_bodies}
 use Rattle.pl_querying.proofs.performing.perform.Goals as goal
@@ -8,9 +8,10 @@ use Rattle.pl_resolved.specs.declared.query.RQuery.{RQuery}
 use Rattle.pl_typing.specs.Resolved.{Gives}
 use Rattle.pl_typing.specs.declared.fail.ScopeFail.{ScopeFail}
 use Rattle.pl_world.specs.Commands.{performed}
-use Rattle.pl_world.specs.Errors.{resolved}
+use Rattle.pl_world.specs.Errors.{raised, resolved}
 use Rattle.pl_world.specs.Resolving.{querying}
 use Rattle.pl_world.specs.Statements.{runner_for}
+use Rattle.pl_world.specs.World.{World}
 
 pub returns-in-Ok-clause-is : goal.returns-in-Ok-clause-is
 returns-in-Ok-clause-is g c =
@@ -18,8 +19,9 @@ returns-in-Ok-clause-is g c =
     let w = world c.args.engine.now in
     let k = λ (qs : List RQuery). performed (runner_for do_bodies c.args.calls.now.room) c.args.at qs w in
     let meaning = querying c.args.q.now w.database.objects w.frame.static in
-    answered law _ _ _ (becomes law (start law (resolved meaning c.args.at w k) c.args.engine.now c.args.port.now c.requires.fits)
-    (resolved_ok meaning c.args.at w k c.in-Ok.queries c.in-Ok.ensures ∙ ap k (sym c.get.ensures))) c.count_rows.ensures.is
+    let way = becomes law (start law (resolved meaning c.args.at w k) c.args.engine.now c.args.port.now c.requires.fits)
+    (resolved_ok meaning c.args.at w k c.in-Ok.queries c.in-Ok.ensures.gives ∙ ap k (sym c.get.ensures)) in
+    answered law _ _ _ (same_world law {new = c.resolve_query.new.self} way c.in-Ok.ensures.is (λ (x : World). performed (runner_for do_bodies c.args.calls.now.room) c.args.at c.get.result.now x) refl) c.count_rows.ensures.is
 
 pub returns-in-Err-State-clause-is : goal.returns-in-Err-State-clause-is
 returns-in-Err-State-clause-is g c =
@@ -27,8 +29,9 @@ returns-in-Err-State-clause-is g c =
     let w = world c.args.engine.now in
     let k = λ (qs : List RQuery). performed (runner_for do_bodies c.args.calls.now.room) c.args.at qs w in
     let meaning = querying c.args.q.now w.database.objects w.frame.static in
-    let is = subst (λ (f : ScopeFail). let x : Result (List RQuery) ScopeFail = Err f in Gives x meaning) c.in-Err-State.field-0-is c.in-Err-State.ensures in
-    acted law (becomes law (start law (resolved meaning c.args.at w k) c.args.engine.now c.args.port.now c.requires.fits) (resolved_err meaning c.args.at w k c.in-Err-State.state is)) c.raise.ensures
+    let is = subst (λ (f : ScopeFail). let x : Result (List RQuery) ScopeFail = Err f in Gives x meaning) c.in-Err-State.field-0-is c.in-Err-State.ensures.gives in
+    let way = becomes law (start law (resolved meaning c.args.at w k) c.args.engine.now c.args.port.now c.requires.fits) (resolved_err meaning c.args.at w k c.in-Err-State.state is) in
+    acted law (same_world law {new = c.resolve_query.new.self} way c.in-Err-State.ensures.is (λ (x : World). raised c.in-Err-State.state c.args.at x) refl) c.raise.ensures
 
 pub returns-in-Err-Memory-clause-is : goal.returns-in-Err-Memory-clause-is
 returns-in-Err-Memory-clause-is g c = before (lawful g.P.Port g.met.P.Port.none g.met.P.Port.joins g.met.P.Port.rises) refl
