@@ -18,7 +18,8 @@ use pl_typing::ScopeFail;
 use std::alloc::Global;
 
 /// What the trees of statements were resolved to, over the same objects. Of each a place is told,
-/// which is any number: it is sought among those of its place alone.
+/// which is any number: it is sought among those of its place alone, and where no more are kept the
+/// place chooses the one that makes room.
 #[derive(Drop)]
 pub struct Plans {
     pub(crate) exprs: Vec<Plan<Expr, ResolvedExpr>>,
@@ -26,9 +27,12 @@ pub struct Plans {
     pub(crate) inserts: Vec<Plan<Insert, RChange>>,
     pub(crate) updates: Vec<Plan<Update, RChange>>,
     pub(crate) deletes: Vec<Plan<Delete, RChange>>,
+    /// The scope that was copied last, which those that are kept next share where theirs is the
+    /// same.
+    pub(crate) newest: Option<Shared<Scope>>,
 }
 
-// What the tree is resolved to. It is kept, if it wasn't.
+// What the tree is resolved to. It may be kept, if it wasn't.
 fn resolve<T: Tree<R>, R: Drop>(
     alloc: Global,
     catalog: &Catalog,
@@ -36,16 +40,17 @@ fn resolve<T: Tree<R>, R: Drop>(
     place: u64,
     tree: &T,
     plans: &mut Vec<Plan<T, R>>,
+    newest: &mut Option<Shared<Scope>>,
 ) -> Result<Shared<R>, ScopeFail>
     requires made { AreMade T.meaning catalog.now.objects plans.old.items }
     ensures gives { Gives result (T.meaning catalog.now.objects scope.now tree.now) }
     ensures made { AreMade T.meaning catalog.now.objects plans.new.items }
 {
-    if let Some(made) = find(plans.as_slice(), place, scope, tree) {
+    if let Some(made) = find(plans, place, scope, tree) {
         return Ok(made);
     }
     let made = Shared::new(alloc, tree.resolve(alloc, catalog, scope)?)?;
-    let _kept = keep(alloc, plans, place, scope, tree, &made);
+    let _kept = keep(alloc, plans, newest, place, scope, tree, &made);
     Ok(made)
 }
 
@@ -60,6 +65,7 @@ impl Plans {
             inserts: Vec::new(alloc),
             updates: Vec::new(alloc),
             deletes: Vec::new(alloc),
+            newest: None,
         }
     }
 
@@ -72,6 +78,7 @@ impl Plans {
         self.inserts.clear();
         self.updates.clear();
         self.deletes.clear();
+        self.newest = None;
     }
 
     /// What the expression is resolved to; or the SQLSTATE of its first failing node in reading
@@ -88,7 +95,15 @@ impl Plans {
         ensures gives { Gives result (resolved_expr catalog.now.objects scope.now e.now) }
         ensures over { AreOver catalog.now.objects self.new }
     {
-        resolve(alloc, catalog, scope, place, e, &mut self.exprs)
+        resolve(
+            alloc,
+            catalog,
+            scope,
+            place,
+            e,
+            &mut self.exprs,
+            &mut self.newest,
+        )
     }
 
     /// What the query is resolved to; or the SQLSTATE of its first failing node in reading order.
@@ -104,7 +119,15 @@ impl Plans {
         ensures gives { Gives result (resolved_query catalog.now.objects scope.now q.now) }
         ensures over { AreOver catalog.now.objects self.new }
     {
-        resolve(alloc, catalog, scope, place, q, &mut self.queries)
+        resolve(
+            alloc,
+            catalog,
+            scope,
+            place,
+            q,
+            &mut self.queries,
+            &mut self.newest,
+        )
     }
 
     /// What the INSERT is resolved to; or the SQLSTATE of its first failing node in reading order.
@@ -120,7 +143,15 @@ impl Plans {
         ensures gives { Gives result (resolved_insert catalog.now.objects scope.now i.now) }
         ensures over { AreOver catalog.now.objects self.new }
     {
-        resolve(alloc, catalog, scope, place, i, &mut self.inserts)
+        resolve(
+            alloc,
+            catalog,
+            scope,
+            place,
+            i,
+            &mut self.inserts,
+            &mut self.newest,
+        )
     }
 
     /// What the UPDATE is resolved to; or the SQLSTATE of its first failing node in reading order.
@@ -136,7 +167,15 @@ impl Plans {
         ensures gives { Gives result (resolved_update catalog.now.objects scope.now u.now) }
         ensures over { AreOver catalog.now.objects self.new }
     {
-        resolve(alloc, catalog, scope, place, u, &mut self.updates)
+        resolve(
+            alloc,
+            catalog,
+            scope,
+            place,
+            u,
+            &mut self.updates,
+            &mut self.newest,
+        )
     }
 
     /// What the DELETE is resolved to; or the SQLSTATE of its first failing node in reading order.
@@ -152,6 +191,14 @@ impl Plans {
         ensures gives { Gives result (resolved_delete catalog.now.objects scope.now d.now) }
         ensures over { AreOver catalog.now.objects self.new }
     {
-        resolve(alloc, catalog, scope, place, d, &mut self.deletes)
+        resolve(
+            alloc,
+            catalog,
+            scope,
+            place,
+            d,
+            &mut self.deletes,
+            &mut self.newest,
+        )
     }
 }

@@ -1,9 +1,9 @@
-//! Scopes that are the same, and their copies.
+//! Scopes that are the same, their copies, and how these are shared.
 
 ghost use Rattle.std.specs.Prelude.{◌≡◌, true, IfOk};
 
 use pl_alike::{all_same, same_name, same_type};
-use pl_base::{List, Ty, copy_each};
+use pl_base::{List, Shared, Ty, copy_each};
 use pl_names::{Scope, Seen, Shape, Visible};
 use pl_resolved::Head;
 use std::alloc::{AllocError, Global};
@@ -93,8 +93,7 @@ fn copy_block(alloc: Global, block: &Visible) -> Result<Visible, AllocError>
     })
 }
 
-/// A copy of the scope.
-pub(crate) fn copy_scope(alloc: Global, scope: &Scope) -> Result<Scope, AllocError>
+fn copy_scope(alloc: Global, scope: &Scope) -> Result<Scope, AllocError>
     ensures { IfOk result (λ copied. copied ≡ scope.now) }
 {
     let frames = copy_each(
@@ -104,4 +103,23 @@ pub(crate) fn copy_scope(alloc: Global, scope: &Scope) -> Result<Scope, AllocErr
     )?;
     let params = copy_each(alloc, scope.params.as_slice(), |ty| Ok(*ty))?;
     Ok(Scope { frames, params })
+}
+
+/// The scope, one owner more: of the newest copy, where it is the same, else of one that is made
+/// and is the newest from then on.
+pub(crate) fn share_scope(
+    alloc: Global,
+    newest: &mut Option<Shared<Scope>>,
+    scope: &Scope,
+) -> Result<Shared<Scope>, AllocError>
+    ensures { IfOk result (λ shared. shared ≡ scope.now) }
+{
+    if let Some(kept) = newest.as_ref() {
+        if is_same_scope(kept.get(), scope) {
+            return kept.share();
+        }
+    }
+    let copied = Shared::new(alloc, copy_scope(alloc, scope)?)?;
+    *newest = Some(copied.share()?);
+    Ok(copied)
 }
