@@ -1,5 +1,5 @@
 -- What is kept stays right, whatever is done to the journal.
-use Rattle.std.proofs.Common.{◌≡◌, ◌≤◌, ◌∙◌, ℕ, suc, zero, List, [], ◌∷◌, ◌++◌, Some, ap, arith, drop, length, refl, slice_get, subst, sym, take}
+use Rattle.std.proofs.Common.{◌≡◌, ◌≤◌, ◌∙◌, ◌+◌, ℕ, suc, zero, List, [], ◌∷◌, ◌++◌, Some, ap, arith, drop, length, refl, slice_get, subst, sym, take}
 use Rattle.std.specs.List.{AllByRecursion}
 use Rattle.pl_catalog.specs.declared.object.Object.{Object}
 use Rattle.pl_planned.specs.Planned.{HasObjects, IsPlanned}
@@ -44,6 +44,11 @@ module _ {A : Type 0} (P : A → Type 0) where
   at_one zero (suc m) (y ∷ xs) x all le is = at_one zero m xs x all.1 (omega (arith, le)) is
   at_one (suc n) zero (y ∷ xs) x all le is = absurd (omega (arith, le))
   at_one (suc n) (suc m) (y ∷ xs) x all le is = at_one n m xs x all (omega (arith, le)) is
+
+  one_left : (n : ℕ) (xs : List A) (x : A) → P x → slice_get xs n ≡ Some x → AllByRecursion P (drop n (take (suc n) xs))
+  one_left n [] x has is = absurd cc
+  one_left zero (y ∷ xs) x has is = (subst P (let o : Some x ≡ Some y = sym is in cc) has, tt)
+  one_left (suc n) (y ∷ xs) x has is = one_left n xs x has is
 
 -- ---- the journal
 
@@ -90,6 +95,12 @@ module _ {plans : Plans} {since : ℕ} (s new : Stored) (p : IsPlanned plans sin
   pub back : (n m : ℕ) → since ≤ n → slice_get s.marks n ≡ Some new.now → new.marks ≡ take m s.marks → IsPlanned plans since new
   back n m le there marks = front m (at_one (HasObjects s.now.objects) since n s.marks new.now p.marks le there) marks
 
--- nothing is kept, and the marks from this one on are gone
-pub back_before : {plans : Plans} (n : ℕ) (s new : Stored) → AreOver new.now.objects plans → new.marks ≡ take n s.marks → IsPlanned plans n new
-back_before n s new over marks = anew n new over (ap (λ (ms : List Database). drop n ms) marks ∙ none_left n s.marks)
+-- nothing is kept, and of the marks from this one on it alone is left
+pub back_before : {plans : Plans} (n : ℕ) (s new : Stored) → AreOver new.now.objects plans → slice_get s.marks n ≡ Some new.now → new.marks ≡ take (n + 1) s.marks → IsPlanned plans n new
+back_before n s new over there marks =
+    let left = one_left (HasObjects new.now.objects) n s.marks new.now refl there in
+    let last : n + 1 ≡ suc n = omega arith in
+    record {
+      over = over;
+      marks = subst (λ (ms : List Database). AllByRecursion (HasObjects new.now.objects) (drop n ms)) (sym (marks ∙ ap (λ (m : ℕ). take m s.marks) last)) left;
+    }

@@ -108,7 +108,7 @@ impl PlannedJournal {
         self.journal.remove(name, id)
     }
 
-    /// As `Journal::seal`.
+    /// As `Journal::seal`. That `since` is lowered serves time alone, as in `release`.
     pub fn seal(&mut self)
         ensures now { self.new.now ≡ self.old.now }
         ensures last { self.new.last ≡ self.old.now }
@@ -118,7 +118,8 @@ impl PlannedJournal {
         self.journal.seal();
     }
 
-    /// As `Journal::reset`. Nothing is kept of what was resolved before it.
+    /// As `Journal::reset`. Nothing is kept of what was resolved before it. That `since` is lowered
+    /// serves time alone, as in `release`.
     pub fn reset(&mut self)
         ensures now { self.new.now ≡ self.old.last }
         ensures last { self.new.last ≡ self.old.last }

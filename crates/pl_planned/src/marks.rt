@@ -38,7 +38,7 @@ impl PlannedJournal {
     }
 
     /// As `Journal::roll_back`. What was resolved stays, where the objects have been the same since
-    /// the mark.
+    /// the mark; what is resolved from now on stays when it is gone back to again.
     pub fn roll_back(&mut self, mark: &Mark)
         requires live { mark.now.at < length self.old.marks }
         ensures now { slice_get self.old.marks mark.now.at ≡ Some self.new.now }
@@ -48,11 +48,12 @@ impl PlannedJournal {
         self.journal.roll_back(mark);
         if mark.at < self.since {
             self.plans.clear();
-            self.since = mark.at + 1;
+            self.since = mark.at;
         }
     }
 
-    /// As `Journal::release`.
+    /// As `Journal::release`. That `since` is lowered serves time alone: more of the marks to come
+    /// are known to have the objects now.
     pub fn release(&mut self, mark: Mark)
         requires live { mark.at < length self.old.marks }
         ensures now { self.new.now ≡ self.old.now }

@@ -4,7 +4,7 @@ use Rattle.pl_planned.proofs.journal.PlannedJournal.roll_back.Goals as goal
 
 pub invariant_of-self : goal.invariant_of-self
 invariant_of-self c =
-    back_before (c.args.mark.now.at + 1) c.self.inside.journal c.roll_back.new.self (c.clear.ensures _) c.roll_back.ensures.marks
+    back_before c.args.mark.now.at c.self.inside.journal c.roll_back.new.self (c.clear.ensures _) c.roll_back.ensures.now c.roll_back.ensures.marks
 
 pub invariant_of-self-else-mark-self : goal.invariant_of-self-else-mark-self
 invariant_of-self-else-mark-self c =
