@@ -26,9 +26,9 @@ fn place_of(routine: &Name, at: Spot) -> u64 {
 }
 
 impl Engine {
-    /// An expression of a statement of the newest call, resolved, of whatever type. It is resolved
-    /// again only where the objects, the variables in reach or the expression aren't those of an
-    /// earlier time.
+    /// An expression of a statement of the newest call, resolved, of whatever type. It may be found
+    /// as it was resolved before, where the objects, the variables in reach and the expression are
+    /// the same.
     #[tactic(auto, unfolding(pl_world::specs::Resolving::reading))]
     pub fn resolve_expr(&mut self, at: Spot, e: &Expr) -> Result<Shared<ResolvedExpr>, ScopeFail>
         ensures gives { Gives result (reading e.now (world self.old).database.objects
@@ -42,9 +42,9 @@ impl Engine {
         self.journal.resolve_expr(self.alloc, scope, place, e)
     }
 
-    /// The query of a statement of the newest call, resolved with those inside it. It is resolved
-    /// again only where the objects, the variables in reach or the query aren't those of an earlier
-    /// time.
+    /// The query of a statement of the newest call, resolved with those inside it. It may be found
+    /// as it was resolved before, where the objects, the variables in reach and the query are the
+    /// same.
     #[tactic(auto, unfolding(pl_world::specs::Resolving::querying))]
     pub fn resolve_query(&mut self, at: Spot, q: &Query) -> Result<Shared<List<RQuery>>, ScopeFail>
         ensures gives { Gives result (querying q.now (world self.old).database.objects
@@ -58,8 +58,8 @@ impl Engine {
         self.journal.resolve_query(self.alloc, scope, place, q)
     }
 
-    /// The change of a statement of the newest call, resolved. It is resolved again only where the
-    /// objects, the variables in reach or the change aren't those of an earlier time.
+    /// The change of a statement of the newest call, resolved. It may be found as it was resolved
+    /// before, where the objects, the variables in reach and the change are the same.
     #[tactic(auto, unfolding(pl_world::specs::Resolving::changing))]
     pub fn resolve_change(&mut self, at: Spot, c: &Change) -> Result<Shared<RChange>, ScopeFail>
         ensures gives { Gives result (changing c.now (world self.old).database.objects
