@@ -79,8 +79,9 @@ pub(crate) struct Stored {
     pub value: Value,
 }
 
-// The variable that a target names. None where it has a qualifier.
-fn aim_at_once<'a>(engine: &'a Engine, target: &Target) -> Option<Spot<'a>>
+/// The variable that a target names. None where it has a qualifier, and where it has to be sought
+/// by the rules for all names.
+pub(crate) fn aim_at_once<'a>(engine: &'a Engine, target: &Target) -> Option<Spot<'a>>
     ensures { IfSome result (λ spot. spec.AimsAt target.now (world engine.now) spot) }
 {
     match target.qualifier {

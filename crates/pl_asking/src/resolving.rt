@@ -14,6 +14,7 @@ ghost use Rattle.pl_typing.specs.Typing as typing;
 ghost use Rattle.pl_world.specs.Resolving as spec;
 ghost use Rattle.pl_world.specs.Variables.{variables_of};
 
+use crate::direct::aim_at_once;
 use crate::variable::Variable;
 use pl_base::{Held, List, Memory, Name, Shared, State, Ty};
 use pl_bodies::{Target, VariableType};
@@ -68,10 +69,9 @@ fn target_means(engine: &Engine, target: &Target) -> Result<Meaning, ScopeFail>
     }
 }
 
-/// The variable that a target names. 42703 where there is none, 42702 where there are several, and
-/// 42P01 where nothing has the qualifier's name.
+// By the rules for all names.
 #[tactic(auto, unfolding(pl_world::specs::Resolving::aiming))]
-pub fn aim(engine: &Engine, target: &Target) -> Result<Variable, ScopeFail>
+fn aim_by_rules(engine: &Engine, target: &Target) -> Result<Variable, ScopeFail>
     ensures { Gives result (spec.aiming target.now (world engine.now).database.objects
         (world engine.now).frame.static) }
 {
@@ -81,6 +81,22 @@ pub fn aim(engine: &Engine, target: &Target) -> Result<Variable, ScopeFail>
         ty: meaning.ty,
         is_required: engine.declared().is_required(meaning.column),
     })
+}
+
+/// The variable that a target names. 42703 where there is none, 42702 where there are several, and
+/// 42P01 where nothing has the qualifier's name.
+pub fn aim(engine: &Engine, target: &Target) -> Result<Variable, ScopeFail>
+    ensures { Gives result (spec.aiming target.now (world engine.now).database.objects
+        (world engine.now).frame.static) }
+{
+    match aim_at_once(engine, target) {
+        Some(spot) => Ok(Variable {
+            at: spot.column,
+            ty: spot.seen.ty,
+            is_required: engine.declared().is_required(spot.column),
+        }),
+        None => aim_by_rules(engine, target),
+    }
 }
 
 /// The variables that targets name, from left to right, each by `aim`.
