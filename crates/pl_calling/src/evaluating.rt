@@ -21,6 +21,7 @@ use pl_base::{Fail, Value};
 use pl_engine::pl_scope::ResolvedExpr;
 use pl_engine::pl_world::Outcome;
 use pl_engine::{BodyRunner, Calls, Engine, Port, Spot, Stop};
+use pl_resolved::RExpr;
 use std::marker::Brand;
 
 // The value, or its error, where calls are reached.
@@ -51,6 +52,16 @@ fn value_with_calls<B: Start, P: Port, R: BodyRunner>(
     finish(engine, port, at, calling, answer)
 }
 
+// A call is what is reached first, so that there is nothing to be tried without calls.
+fn begins_with_call(e: &RExpr) -> bool {
+    match e {
+        RExpr::Call { .. } => true,
+        RExpr::Chain(chain) => matches!(chain.get().first, RExpr::Call { .. }),
+        RExpr::Cast { operand, .. } => matches!(operand.get(), RExpr::Call { .. }),
+        _ => false,
+    }
+}
+
 // The value, or its error.
 fn value_of<B: Start, P: Port, R: BodyRunner>(
     calls: &Calls<'_, R>,
@@ -71,6 +82,9 @@ fn value_of<B: Start, P: Port, R: BodyRunner>(
         engine.old engine.new port.old port.new }
     ensures keeps { OnOk result (kept engine.new ≡ kept engine.old) }
 {
+    if begins_with_call(e.typed.tree.get()) {
+        return value_with_calls::<B, P, R>(calls, engine, port, at, e, beside);
+    }
     let tried = try_value::<B>(calls.room, &*engine, at, e, beside);
     if tried.is_reached {
         return value_with_calls::<B, P, R>(calls, engine, port, at, e, beside);

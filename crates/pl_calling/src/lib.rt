@@ -27,3 +27,4 @@ pub use pl_engine;
 pub use pl_names;
 pub use querying::query;
 pub use start::Start;
+pub use trial::{Tried, try_rows};

@@ -56,7 +56,7 @@ impl<B: Start> Caller for Trial<B> {
 
 /// What came of reading without calls.
 #[derive(Drop)]
-pub(crate) struct Tried<A> {
+pub struct Tried<A> {
     pub answer: Result<A, Unsettled>,
     /// A call was reached, so that there is no answer.
     pub is_reached: bool,
@@ -114,8 +114,9 @@ pub(crate) fn try_value<B: Start>(
     }
 }
 
-/// The rows of the last of these queries.
-pub(crate) fn try_rows<B: Start>(
+/// The rows of the last of these queries, if no call of a routine is reached. All that is read is
+/// lent.
+pub fn try_rows<B: Start>(
     room: u64,
     engine: &Engine,
     at: Spot,
