@@ -1,3 +1,4 @@
+mod AsFound
 mod Assigned
 mod Ended
 mod Entered

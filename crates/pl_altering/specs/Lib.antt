@@ -1,4 +1,5 @@
 pub mod Settings
 pub mod Entries
 pub mod Ends
+pub mod Taking
 pub use Rattle.pl_targets.specs as pl_targets

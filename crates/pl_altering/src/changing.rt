@@ -3,6 +3,7 @@
 
 ghost use Rattle.std.specs.Prelude.{◌≡◌, ◌≤◌, OnOk};
 ghost use Rattle.pl_altering.specs.Ends.{changes, done_from};
+ghost use Rattle.pl_altering.specs.Taking.{TakesRows};
 ghost use Rattle.pl_querying.specs.pl_calling.Ends.{settles};
 ghost use Rattle.pl_querying.specs.pl_engine.Answers.{Answers};
 ghost use Rattle.pl_querying.specs.pl_engine.Engines.{kept, world};
@@ -13,9 +14,10 @@ use crate::command::{AROUND, Command};
 use crate::keeping::rows_for;
 use crate::moment::Moment;
 use crate::running::run;
+use crate::taking::{are_wide, take_rows, width_taken};
 use pl_base::{Cells, Fail, List};
 use pl_query::{Queries, Store};
-use pl_querying::pl_calling::{Calling, Start, copies_for, finish};
+use pl_querying::pl_calling::{Calling, Start, copies_for, finish, try_rows};
 use pl_querying::pl_engine::{BodyRunner, Calls, Engine, Port, Spot, Stop};
 use pl_targets::RChange;
 use pl_world::pl_change::copy_row;
@@ -63,6 +65,64 @@ fn change_rows<B: Start, P: Port, R: BodyRunner>(
     finish(engine, port, at, calling, answer)
 }
 
+// The rows of the query are read where they stand, and then written as they are. Where the query
+// fails, or reaches a call, all is done anew over copies.
+fn take_or_change<B: Start, P: Port, R: BodyRunner>(
+    calls: &Calls<'_, R>,
+    engine: &mut Engine,
+    port: &mut P,
+    at: Spot,
+    change: &RChange,
+    width: usize,
+) -> Result<Result<List<Cells>, Fail>, Stop>
+    requires begins { B.begin ≡ world engine.old }
+    requires stays { B.stays ≡ kept engine.old }
+    requires room { (world engine.old).steps ≤ calls.now.room }
+    requires fits { P.fits (world engine.old).last port.old }
+    requires runs { R.runs calls.now.bodies.now calls.now.room }
+    requires takes { TakesRows change.now width }
+    ensures is { Answers P.Port
+        (settles (done_from (runner_for do_bodies calls.now.room) at change.now
+        (world engine.old)) at) result
+        engine.old engine.new port.old port.new }
+    ensures keeps { OnOk result (kept engine.new ≡ kept engine.old) }
+{
+    let tried = try_rows::<B>(calls.room, &*engine, at, &change.queries);
+    match tried.answer {
+        Ok(found) => {
+            if are_wide(found.as_slice(), width) {
+                return take_rows::<B, P, R>(calls, engine, port, at, change, found);
+            }
+            change_rows::<B, P, R>(calls, engine, port, at, change)
+        }
+        Err(_) => change_rows::<B, P, R>(calls, engine, port, at, change),
+    }
+}
+
+fn change_by<B: Start, P: Port, R: BodyRunner>(
+    calls: &Calls<'_, R>,
+    engine: &mut Engine,
+    port: &mut P,
+    at: Spot,
+    change: &RChange,
+) -> Result<Result<List<Cells>, Fail>, Stop>
+    requires begins { B.begin ≡ world engine.old }
+    requires stays { B.stays ≡ kept engine.old }
+    requires room { (world engine.old).steps ≤ calls.now.room }
+    requires fits { P.fits (world engine.old).last port.old }
+    requires runs { R.runs calls.now.bodies.now calls.now.room }
+    ensures is { Answers P.Port
+        (settles (done_from (runner_for do_bodies calls.now.room) at change.now
+        (world engine.old)) at) result
+        engine.old engine.new port.old port.new }
+    ensures keeps { OnOk result (kept engine.new ≡ kept engine.old) }
+{
+    match width_taken(change) {
+        Some(width) => take_or_change::<B, P, R>(calls, engine, port, at, change, width),
+        None => change_rows::<B, P, R>(calls, engine, port, at, change),
+    }
+}
+
 // The same, with the table among those that are changed.
 fn change_begun<P: Port, R: BodyRunner>(
     calls: &Calls<'_, R>,
@@ -80,7 +140,7 @@ fn change_begun<P: Port, R: BodyRunner>(
         engine.old engine.new port.old port.new }
     ensures keeps { OnOk result (kept engine.new ≡ kept engine.old) }
 {
-    change_rows::<Brand, P, R>(calls, engine, port, at, change)
+    change_by::<Brand, P, R>(calls, engine, port, at, change)
 }
 
 /// Runs a change, and answers a row of RETURNING for each row that was written, an empty one where

@@ -1,5 +1,6 @@
 //! INSERT, UPDATE and DELETE, as commands and as statements of bodies. Their expressions may call
-//! routines, so a change goes row by row, over copies of what its rows read.
+//! routines, so a change goes row by row, over copies of what its rows read. The rows of a query
+//! that are added as they are need no copies.
 #![tactic(auto)]
 
 mod altering;
@@ -13,6 +14,7 @@ mod resolving;
 mod rows;
 mod running;
 mod showing;
+mod taking;
 
 pub use altering::alter;
 pub use changing::change;

@@ -19,8 +19,8 @@ use pl_value::{Lent, Unsettled};
 use pl_world::pl_change::copy_row;
 use std::alloc::{AllocError, Global};
 
-// One row of RETURNING more.
-fn add_shown(rows: Rows, shown: Cells) -> Result<Rows, Unsettled>
+/// One row of RETURNING more.
+pub(crate) fn add_shown(rows: Rows, shown: Cells) -> Result<Rows, Unsettled>
     ensures { (command : running.Command) (s : Standing)
         → ReadsOver command (λ x. got (rows ++ shown ∷ []) x) result s s }
 {
@@ -40,6 +40,10 @@ pub(crate) fn show<'x, B: Start, R: BodyRunner>(
     ensures { ReadsOver command.now (λ x. spec.shown (setting_over command.now inside.now) row.now
         rows x) result calling.old calling.new }
 {
+    if command.change.returning.is_empty() {
+        return add_shown(rows, List::new(command.alloc));
+    }
+    let returning = command.change.returning.as_slice();
     let frame = [
         Lent {
             cells: command.variables,
@@ -47,7 +51,6 @@ pub(crate) fn show<'x, B: Start, R: BodyRunner>(
         Lent { cells: &[] },
         Lent { cells: row },
     ];
-    let returning = command.change.returning.as_slice();
     match read_row(command, inside, returning, &frame, calling) {
         Ok(shown) => add_shown(rows, shown),
         Err(why) => Err(why),
