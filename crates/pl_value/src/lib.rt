@@ -15,6 +15,8 @@ mod world;
 
 pub use combined::{better, combine, is_in};
 pub use expression::{passes, value, values};
+pub use number::{Number, given_number};
 pub use operand::{Lent, Operand, Unsettled};
 pub use standing::{cell_at, leaf};
+pub use truth::truth_in;
 pub use world::{Caller, NoQueries, NoRoutines, Subqueries};

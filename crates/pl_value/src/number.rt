@@ -21,7 +21,7 @@ use pl_resolved::{RChain, RExpr, RStep};
 
 /// A number, and whether its type is integer, of 32 bits, or bigint, of 64.
 #[derive(Clone, Copy)]
-pub(crate) struct Number {
+pub struct Number {
     pub whole: i64,
     pub is_integer: bool,
 }
@@ -133,6 +133,15 @@ fn number_at(frame: &[Lent<'_>], row: usize, column: usize) -> Option<Number>
 
 /// The number that the expression gives over the rows that stand. None where it is to be read as a
 /// value.
+#[inline(always)]
+pub fn given_number<C>(e: &RExpr, frame: &[Lent<'_>]) -> Option<Number>
+    ensures { IfSome result (λ n. (calls : Calls C) (sub : Sub C) (caller : C)
+        → spec.value calls sub e.now (rows_of frame.now) caller ≡ got (number_value n) caller) }
+{
+    number_in::<C>(e, frame, NUMBER_DEPTH)
+}
+
+/// The same, where chains in chains are read so deep.
 #[cycle(number)]
 #[inline(always)]
 pub(crate) fn number_in<C>(e: &RExpr, frame: &[Lent<'_>], depth: usize) -> Option<Number>

@@ -24,7 +24,7 @@ use pl_resolved::{Combination, RExpr, RPair};
 /// The truth of the expression, which is None where it is unknown. No truth at all where it is to
 /// be read as a value.
 #[cycle(truth)]
-pub(crate) fn truth_in<'a, C>(e: &'a RExpr, frame: &[Lent<'a>]) -> Option<Option<bool>>
+pub fn truth_in<'a, C>(e: &'a RExpr, frame: &[Lent<'a>]) -> Option<Option<bool>>
     ensures { IfSome result (λ t. (calls : Calls C) (sub : Sub C) (caller : C)
         → spec.value calls sub e.now (rows_of frame.now) caller ≡ got (truth_value t) caller) }
 {
