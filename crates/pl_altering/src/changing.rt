@@ -14,7 +14,7 @@ use crate::command::{AROUND, Command};
 use crate::keeping::rows_for;
 use crate::moment::Moment;
 use crate::running::run;
-use crate::taking::{are_wide, take_rows, width_taken};
+use crate::taking::{add_as_found, are_wide, width_taken};
 use pl_base::{Cells, Fail, List};
 use pl_query::{Queries, Store};
 use pl_querying::pl_calling::{Calling, Start, copies_for, finish, try_rows};
@@ -91,7 +91,7 @@ fn take_or_change<B: Start, P: Port, R: BodyRunner>(
     match tried.answer {
         Ok(found) => {
             if are_wide(found.as_slice(), width) {
-                return take_rows::<B, P, R>(calls, engine, port, at, change, found);
+                return add_as_found::<B, P, R>(calls, engine, port, at, change, found);
             }
             change_rows::<B, P, R>(calls, engine, port, at, change)
         }
@@ -99,6 +99,7 @@ fn take_or_change<B: Start, P: Port, R: BodyRunner>(
     }
 }
 
+// The rows of an INSERT's query are written as they are where that is what it says.
 fn change_by<B: Start, P: Port, R: BodyRunner>(
     calls: &Calls<'_, R>,
     engine: &mut Engine,

@@ -114,8 +114,8 @@ fn turned(alloc: Global, mut rows: List<Cells>) -> Result<List<Cells>, AllocErro
     Ok(turned)
 }
 
-// A row is written.
-fn write_row<B: Start, R: BodyRunner>(
+// A row is added as it is.
+fn add_one<B: Start, R: BodyRunner>(
     command: &Command<'_>,
     row: Cells,
     rows: Rows,
@@ -130,8 +130,8 @@ fn write_row<B: Start, R: BodyRunner>(
     }
 }
 
-// The rows are written, one after another.
-fn write_each<B: Start, R: BodyRunner>(
+// The rows are added, one after another.
+fn add_each<B: Start, R: BodyRunner>(
     command: &Command<'_>,
     found: List<Cells>,
     calling: &mut Calling<'_, B, R>,
@@ -143,7 +143,7 @@ fn write_each<B: Start, R: BodyRunner>(
     let mut rows = Rows::new(command.alloc);
     let mut left = turned(command.alloc, found)?;
     while let Some(row) = left.pop() {
-        match write_row(&*command, row, rows, calling) {
+        match add_one(&*command, row, rows, calling) {
             Ok(more) => rows = more,
             Err(why) => return Err(why),
         }
@@ -151,7 +151,8 @@ fn write_each<B: Start, R: BodyRunner>(
     Ok(rows)
 }
 
-fn write_all<B: Start, R: BodyRunner>(
+// The same, with what is shown of them as a list.
+fn add_all<B: Start, R: BodyRunner>(
     command: &Command<'_>,
     found: List<Cells>,
     calling: &mut Calling<'_, B, R>,
@@ -160,14 +161,14 @@ fn write_all<B: Start, R: BodyRunner>(
         → ReadsOver command.now (λ x. in_turn (writes s None) found [] x) result
         calling.old calling.new }
 {
-    match write_each(command, found, calling) {
+    match add_each(command, found, calling) {
         Ok(rows) => Ok(List::from_vec(rows.into_vec())),
         Err(why) => Err(why),
     }
 }
 
-/// The rows that its query found are written as they are.
-pub(crate) fn take_rows<B: Start, P: Port, R: BodyRunner>(
+/// The rows that the query of an INSERT found are added as they are.
+pub(crate) fn add_as_found<B: Start, P: Port, R: BodyRunner>(
     calls: &Calls<'_, R>,
     engine: &mut Engine,
     port: &mut P,
@@ -195,6 +196,6 @@ pub(crate) fn take_rows<B: Start, P: Port, R: BodyRunner>(
         room: calls.room,
     };
     let mut calling = Calling::<B, R>::begin(calls, engine, at);
-    let answer = write_all(&command, found, &mut calling);
+    let answer = add_all(&command, found, &mut calling);
     finish(engine, port, at, calling, answer)
 }

@@ -16,7 +16,8 @@ use pl_bodies::{CaseArm, Loop, LoopHead, Otherwise, StatementKind};
 use pl_control::pl_asking::case_operand;
 use pl_control::pl_engine::{BodyRunner, Engine, Port, Runner, Spot, Stop, Task};
 use pl_handlers::block;
-use pl_handlers::pl_flow::{Numbers, branches, for_numbers, forever, searched, while_true};
+use pl_handlers::pl_flow::{branches, searched};
+use pl_loops::{Numbers, for_numbers, forever, while_true};
 use pl_tree::Expr;
 use pl_world::Outcome;
 

@@ -3,6 +3,4 @@ pub mod Asked
 pub mod Lists
 pub mod Opened
 pub mod Overs
-pub mod Repeats
-pub mod Counted
 pub use Rattle.pl_engine.proofs as of_pl_engine

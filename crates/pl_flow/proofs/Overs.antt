@@ -1,74 +1,40 @@
--- The variable of a FOR, and the variables of a block.
-use Rattle.std.proofs.Common.{◌≡◌, ◌<◌, ◌∙◌, arith, Bool, ℕ, ℤ, zero, suc, true, false, List, Option, ap, nat_lt, refl, sym}
-use Rattle.std.proofs.lemmas.Bool.{lt-ltb}
-use Rattle.pl_base.specs.declared.types.Ty.{Ty}
-use Rattle.pl_base.specs.declared.types.Ty.TheVariants.{Int as Integer}
-use Rattle.pl_base.specs.declared.value.Value.{Value}
-use Rattle.pl_base.specs.declared.value.Value.TheVariants.{Null}
+-- The variables of a block.
+use Rattle.std.proofs.Common.{◌≡◌, ◌∙◌, List, Option, ap, refl, sym}
 use Rattle.pl_bodies.specs.declared.declaration.Declaration.{Declaration}
 use Rattle.pl_bodies.specs.declared.statement.Block.{Block, out-Block}
-use Rattle.pl_bodies.specs.declared.statement.Statement.{Statement}
 use Rattle.pl_engine.proofs.Joins.{Lawful, acted, becomes, on, quietly, start, stopped, within}
 use Rattle.pl_engine.specs.Answers.{Done, Partway, Stopped}
-use Rattle.pl_engine.specs.Engines.{Quiet, world}
+use Rattle.pl_engine.specs.Engines.{world}
 use Rattle.pl_engine.specs.declared.engine.Engine.{Engine}
 use Rattle.pl_engine.specs.declared.port.Port.{Ghosts}
 use Rattle.pl_engine.specs.declared.stop.Stop.{Stop}
-use Rattle.pl_flow.specs.Ranges.{numbers_in}
-use Rattle.pl_flow.specs.declared.ranges.Counting.{Counting}
 use Rattle.pl_names.specs.Names.{Name}
 use Rattle.pl_engine.specs.pl_world.Blocks.{all_declared, block, block_end, block_left, protected, within_block}
-use Rattle.pl_engine.specs.pl_world.Control.{counted_from, each, for_left, over_numbers, with_turns}
 use Rattle.pl_engine.specs.pl_world.Errors.{Spot}
 use Rattle.pl_engine.specs.pl_world.Running.{Runner, on_next}
-use Rattle.pl_engine.specs.pl_world.Variables.{closed, declared, newest_place, opened, with_found}
+use Rattle.pl_engine.specs.pl_world.Variables.{closed, opened}
 use Rattle.pl_engine.specs.pl_world.World.{Ran, World, and_then, ends}
 use Rattle.pl_engine.specs.pl_world.declared.outcome.Outcome.{Outcome}
-use Rattle.pl_engine.specs.pl_world.declared.outcome.Outcome.TheVariants as outcome
 
 -- ---- what a block of variables leaves
 
-opened_steps : (label : Option Name) (w : World) → (opened label w).steps ≡ w.steps
+pub opened_steps : (label : Option Name) (w : World) → (opened label w).steps ≡ w.steps
 unfolding opened
 opened_steps label w = refl
 
-opened_last : (label : Option Name) (w : World) → (opened label w).last ≡ w.last
+pub opened_last : (label : Option Name) (w : World) → (opened label w).last ≡ w.last
 unfolding opened
 opened_last label w = refl
 
-declared_steps : (name : Name) (ty : Ty) (v : Value) (w : World) → (declared name ty false v w).steps ≡ w.steps
-unfolding declared
-declared_steps name ty v w = refl
-
-declared_last : (name : Name) (ty : Ty) (v : Value) (w : World) → (declared name ty false v w).last ≡ w.last
-unfolding declared
-declared_last name ty v w = refl
-
-closed_steps : (w : World) → (closed w).steps ≡ w.steps
+pub closed_steps : (w : World) → (closed w).steps ≡ w.steps
 unfolding closed
 closed_steps w = refl
 
-closed_last : (w : World) → (closed w).last ≡ w.last
+pub closed_last : (w : World) → (closed w).last ≡ w.last
 unfolding closed
 closed_last w = refl
 
--- ---- FOR
-
-over_is : (r : Runner) (at : Spot) (label : Option Name) (variable : Name) (body : List Statement) (zs : List ℤ) (w : World)
-    → over_numbers r at label variable body zs w ≡ and_then (each r at label (newest_place (declared variable Integer false Null (opened label w))) body zs (declared variable Integer false Null (opened label w))) (for_left zs)
-unfolding over_numbers
-over_is r at label variable body zs w = refl
-
-module _ {P : Type 0} {port : Ghosts P} (law : Lawful port) (r : Runner) (at : Spot) (label : Option Name) (variable : Name) (body : List Statement) (zs : List ℤ) where
-  pub over_here : (e0 e1 e2 : Engine) (p : P) (to : ℕ) → port.fits (world e0).last p → world e1 ≡ opened label (world e0) → world e2 ≡ declared variable Integer false Null (world e1) → to ≡ newest_place (world e2)
-      → Partway port (over_numbers r at label variable body zs (world e0)) (and_then (each r at label to body zs (world e2)) (for_left zs)) e0 e2 p p
-  over_here e0 e1 e2 p to fits one two place =
-      let both : world e2 ≡ declared variable Integer false Null (opened label (world e0)) = two ∙ ap (λ (w : World). declared variable Integer false Null w) one in
-      quietly law (becomes law (start law (over_numbers r at label variable body zs (world e0)) e0 p fits)
-      (over_is r at label variable body zs (world e0) ∙ (ap (λ (w : World). and_then (each r at label (newest_place w) body zs w) (for_left zs)) (sym both)
-      ∙ ap (λ (n : ℕ). and_then (each r at label n body zs (world e2)) (for_left zs)) (sym place))))
-      (ap (λ (w : World). w.steps) both ∙ (declared_steps variable Integer Null (opened label (world e0)) ∙ opened_steps label (world e0)))
-      (ap (λ (w : World). w.last) both ∙ (declared_last variable Integer Null (opened label (world e0)) ∙ opened_last label (world e0)))
+-- ---- what runs behind it
 
 module _ {P : Type 0} {port : Ghosts P} (law : Lawful port) {whole first : Ran Outcome} {old mid : Engine} {p m : P} (k : Outcome → World → Ran Outcome) (way : Partway port whole (and_then first k) old mid p m) where
   pub ran_on : {new : Engine} {q : P} (o : Outcome) → Done port first o mid new m q → Partway port whole (k o (world new)) old new p q
@@ -76,36 +42,6 @@ module _ {P : Type 0} {port : Ghosts P} (law : Lawful port) {whole first : Ran O
 
   pub ran_stopped : {q : P} {stop : Stop} → Stopped port first stop mid m q → Stopped port whole stop old p q
   ran_stopped s = stopped law way (within law k s)
-
--- FOUND is whether there was a turn
-some_found : (n : ℕ) (w : World) → with_found true w ≡ with_found (nat_lt 0 (suc n)) w
-some_found n w = let more : 0 < suc n = omega arith in ap (λ (b : Bool). with_found b w) (sym (lt-ltb 0 (suc n) more))
-
-found_by : (n : ℕ) (z by : ℤ) (o : Outcome) (w : World) → ((f : _) → o ≡ outcome.Fail f → ⊥) → with_turns (counted_from z by n) o w ≡ with_found (nat_lt 0 n) w
-found_by zero z by outcome.Next w other = refl
-found_by zero z by (outcome.Exit to) w other = refl
-found_by zero z by (outcome.Continue to) w other = refl
-found_by zero z by (outcome.Return v) w other = refl
-found_by zero z by (outcome.Fail f) w other = absurd (other f refl)
-found_by (suc n) z by outcome.Next w other = some_found n w
-found_by (suc n) z by (outcome.Exit to) w other = some_found n w
-found_by (suc n) z by (outcome.Continue to) w other = some_found n w
-found_by (suc n) z by (outcome.Return v) w other = some_found n w
-found_by (suc n) z by (outcome.Fail f) w other = absurd (other f refl)
-
-module _ (range : Counting) (o : Outcome) (old mid : Engine) (shut : world mid ≡ closed (world old)) where
-  pub left_failed : (o' : Outcome) (f : _) → o ≡ outcome.Fail f → o' ≡ o → Quiet (for_left (numbers_in range) o (world old)) o' old mid
-  left_failed o' f fails same = (ap (λ (x : Outcome). with_turns (numbers_in range) x (closed (world old))) fails ∙ sym shut, sym same, refl, refl, ap (λ (w : World). w.steps) shut ∙ closed_steps (world old), ap (λ (w : World). w.last) shut ∙ closed_last (world old))
-
-  pub left_found : (o' : Outcome) (new : Engine) → ((f : _) → o ≡ outcome.Fail f → ⊥) → world new ≡ with_found (nat_lt 0 range.count) (world mid) → o' ≡ o → Quiet (for_left (numbers_in range) o (world old)) o' old new
-  left_found o' new other found same = (
-    found_by range.count range.first range.step o (closed (world old)) other ∙ (ap (λ (w : World). with_found (nat_lt 0 range.count) w) (sym shut) ∙ sym found),
-    sym same,
-    refl,
-    refl,
-    ap (λ (w : World). w.steps) found ∙ (ap (λ (w : World). w.steps) shut ∙ closed_steps (world old)),
-    ap (λ (w : World). w.last) found ∙ (ap (λ (w : World). w.last) shut ∙ closed_last (world old)),
-  )
 
 -- ---- blocks
 

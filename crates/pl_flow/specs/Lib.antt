@@ -1,3 +1,2 @@
 pub mod Answered
-pub mod Ranges
 pub use Rattle.pl_engine.specs as pl_engine

@@ -1,5 +1,4 @@
-//! What was answered to what statements ask, and how a turn ended. What is no such answer ends the
-//! statement.
+//! What was answered to what statements ask. What is no such answer ends the statement.
 
 ghost use Rattle.std.specs.Prelude.{◌≡◌};
 ghost use Rattle.pl_flow.specs.Answered as spec;
@@ -29,21 +28,11 @@ pub fn truth_of(answer: Outcome) -> Result<bool, Outcome>
 }
 
 /// The integer that was answered.
-pub(crate) fn number_of(answer: Outcome) -> Result<i32, Outcome>
+pub fn number_of(answer: Outcome) -> Result<i32, Outcome>
     ensures { result ≡ spec.number_of answer }
 {
     match answer {
         Outcome::Return(Value::Int(number)) => Ok(number),
-        other => Err(other),
-    }
-}
-
-/// The loop goes on with its next turn.
-pub(crate) fn going(end: Outcome) -> Result<(), Outcome>
-    ensures { result ≡ spec.going_of end }
-{
-    match end {
-        Outcome::Continue(None) => Ok(()),
         other => Err(other),
     }
 }

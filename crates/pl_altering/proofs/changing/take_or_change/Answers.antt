@@ -6,8 +6,8 @@ use Rattle.pl_altering.specs.Taking.{HasWidth}
 use Rattle.pl_querying.specs.pl_engine.Engines.{world}
 use Rattle.pl_value.specs.Frames.{Row}
 
-pub take_rows-requires-clause-left : goal.take_rows-requires-clause-left
-take_rows-requires-clause-left g c =
+pub add_as_found-requires-clause-left : goal.add_as_found-requires-clause-left
+add_as_found-requires-clause-left g c =
     let same : c.as_slice.result.now ≡ c.in-Ok.found = c.as_slice.ensures ∙ rw c.in-Ok.is refl in
     rw c.in-Ok.is
     (left_of c.args.at c.args.calls.now.room c.args.change.now c.args.width (world c.args.engine.now) c.requires.takes c.in-Ok.found

@@ -1,0 +1,4 @@
+mod Opened
+mod Overs
+mod Repeats
+mod Counted
