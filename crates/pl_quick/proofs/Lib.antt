@@ -1,0 +1,7 @@
+mod Computing
+mod Values
+mod Olds
+mod Forms
+mod Turns
+mod Plans
+mod Junctions

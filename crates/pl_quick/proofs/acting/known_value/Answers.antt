@@ -1,0 +1,15 @@
+use Rattle.std.proofs.Common.{◌≡◌, ◌∙◌, ap, subst}
+use Rattle.std.specs.Prelude.{IfSome}
+use Rattle.pl_direct.specs.Known.{value_of}
+use Rattle.pl_direct.specs.Direct.{Valued}
+use Rattle.pl_direct.specs.pl_scope.declared.resolve.ResolvedExpr.{ResolvedExpr}
+use Rattle.pl_engine.specs.pl_world.Calls.{Within}
+use Rattle.pl_quick.proofs.acting.known_value.Goals as goal
+use Rattle.pl_resolved.specs.declared.expression.RExpr.{RExpr}
+use Rattle.pl_value.specs.Frames.{Row}
+
+pub returns : goal.returns
+returns c =
+    let tree : c.get-2.result.now ≡ c.args.e.now.typed.tree = c.get-2.ensures ∙ ap (λ (x : ResolvedExpr). x.typed.tree) c.get.ensures in
+    subst (λ (row : Row). IfSome c.number_or_truth.result (λ b. Valued Within c.args.e.now.typed.tree row (value_of b))) c.values.ensures
+    (subst (λ (t : RExpr). IfSome c.number_or_truth.result (λ b. Valued Within t c.values.result.now (value_of b))) tree c.number_or_truth.ensures)

@@ -1,0 +1,20 @@
+//! Turns of loops whose statements only compute: assignments of numbers and truths to variables,
+//! IF with such conditions over such statements, EXIT and CONTINUE of the loop itself, and NULL.
+//! What their names mean is resolved once for a loop, since such turns change nothing but values of
+//! variables; then each turn is done over the variables at once, or nothing of it is.
+#![tactic(auto)]
+
+mod act;
+mod acting;
+mod fitting;
+mod making;
+mod old;
+mod quick;
+mod reading;
+mod turning;
+
+pub use fitting::fitted;
+pub use pl_direct;
+pub use pl_engine;
+pub use quick::Quick;
+pub use turning::Turned;
