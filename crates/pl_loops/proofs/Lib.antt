@@ -1,3 +1,4 @@
+mod Computed
 mod Opened
 mod Overs
 mod Repeats

@@ -2,6 +2,7 @@
 //! in.
 #![tactic(auto)]
 
+mod at_once;
 mod loops;
 mod numbers;
 mod ranges;

@@ -9,12 +9,14 @@ ghost use Rattle.pl_loops.specs.Turns as spec;
 ghost use Rattle.pl_engine.specs.pl_world.Control as control;
 ghost use Rattle.pl_engine.specs.pl_world.Statements.{runner_for};
 
+use crate::at_once::{round_at_once, turn_at_once};
 use crate::turns::{going, turn};
 use pl_base::{Name, State};
 use pl_bodies::Statement;
 use pl_engine::pl_world::Outcome;
 use pl_engine::{Ask, Engine, Port, Runner, Spot, Stop, Task, ask};
 use pl_flow::truth_of;
+use pl_quick::Quick;
 use pl_tree::Expr;
 
 /// LOOP
@@ -37,8 +39,9 @@ where
         engine.old engine.new port.old port.new }
     ensures keeps { OnOk result (kept engine.new ≡ kept engine.old) }
 {
+    let mut quick = Quick::new(engine.alloc());
     for _turn in 0..runner.room {
-        let end = turn(runner, engine, port, at, label, body)?;
+        let end = turn_at_once(runner, engine, port, &mut quick, at, label, body)?;
         match going(end) {
             Ok(()) => {}
             Err(end) => return Ok(end),
@@ -47,8 +50,8 @@ where
     Ok(engine.raise(State::QUERY_CANCELED, at))
 }
 
-// The condition is asked, and there is a turn where it is true.
-fn round<P: Port, F>(
+/// The condition is asked, and there is a turn where it is true.
+pub(crate) fn round<P: Port, F>(
     runner: &Runner<F>,
     engine: &mut Engine,
     port: &mut P,
@@ -126,8 +129,9 @@ where
         engine.old engine.new port.old port.new }
     ensures keeps { OnOk result (kept engine.new ≡ kept engine.old) }
 {
+    let mut quick = Quick::new(engine.alloc());
     for _turn in 0..runner.room {
-        let end = round(runner, engine, port, at, label, condition, body)?;
+        let end = round_at_once(runner, engine, port, &mut quick, at, label, condition, body)?;
         match going(end) {
             Ok(()) => {}
             Err(end) => return Ok(end),

@@ -9,13 +9,15 @@ ghost use Rattle.pl_loops.specs.Ranges.{AreIntegers, numbers_in};
 ghost use Rattle.pl_engine.specs.pl_world.Control as spec;
 ghost use Rattle.pl_engine.specs.pl_world.Statements.{runner_for};
 
+use crate::at_once::turn_at_once;
 use crate::ranges::{Counting, range};
-use crate::turns::{going, turn};
+use crate::turns::going;
 use pl_base::{Boxed, Name, State, Ty, Value};
 use pl_bodies::Statement;
 use pl_engine::pl_world::Outcome;
 use pl_engine::{Ask, Engine, Port, Runner, Spot, Stop, Task, ask};
 use pl_flow::number_of;
+use pl_quick::Quick;
 use pl_tree::Expr;
 
 /// A FOR over numbers.
@@ -56,9 +58,10 @@ where
     ensures keeps { OnOk result (kept engine.new ≡ kept engine.old) }
 {
     let mut left = range;
+    let mut quick = Quick::new(engine.alloc());
     while let Some(number) = left.next() {
         engine.set(to, Value::Int(number));
-        let end = turn(runner, engine, port, at, label, body)?;
+        let end = turn_at_once(runner, engine, port, &mut quick, at, label, body)?;
         match going(end) {
             Ok(()) => {}
             Err(end) => return Ok(end),

@@ -1,3 +1,4 @@
+use Rattle.pl_engine.specs.Engines.{world}
 use Rattle.pl_engine.proofs.Joins.{lawful, refused, acted}
 use Rattle.pl_flow.proofs.Asked.{asked_off, asked_on, asked_stopped}
 use Rattle.pl_loops.proofs.Repeats.{forever_end, forever_here, further_turns, later, loop_start}
@@ -5,7 +6,7 @@ use Rattle.pl_loops.proofs.loops.forever.Goals as goal
 use Rattle.pl_loops.specs.Turns.{going_of}
 use Rattle.pl_engine.specs.pl_world.Control.{forever}
 use Rattle.pl_engine.specs.pl_world.Statements.{runner_for}
-use Rattle.std.proofs.Common.{◌∙◌, refl, rules, true, false}
+use Rattle.std.proofs.Common.{◌∙◌, refl, rules, true, false, None}
 use Rattle.pl_engine.specs.Texts.{do_bodies}
 
 pub loop-turn-init : goal.loop-turn-init
@@ -14,6 +15,7 @@ loop-turn-init g c =
     let r = runner_for do_bodies c.args.runner.now.room in
     record {
       way = loop_start r c.args.at c.args.label.now c.args.body.now law forever c.args.engine.now c.args.port.now c.requires.fits;
+      suits = c.new-quick.ensures None c.args.body.now (world c.args.engine.now);
       keeps = refl;
     }
 
@@ -22,7 +24,7 @@ returns-in_err-end-clause-is g c =
     let law = lawful g.P.Port g.met.P.Port.none g.met.P.Port.joins g.met.P.Port.rises in
     let r = runner_for do_bodies c.args.runner.now.room in
     let here = forever_here r c.args.at c.args.label.now c.args.body.now law c.args.runner.now.room _ c.loop-turn.invariant.way c.loop-turn-test.true in
-    refused c.turn.new.engine _ c.in_err-end.field-0.0 c.from_residual.ensures (asked_stopped law going_of (later (further_turns r c.args.at c.args.label.now c.args.body.now _)) here c.in_err-end.ensures.is)
+    refused c.turn_at_once.new.engine _ c.in_err-end.field-0.0 c.from_residual.ensures (asked_stopped law going_of (later (further_turns r c.args.at c.args.label.now c.args.body.now _)) here c.in_err-end.ensures.is)
 
 pub returns-in-Err-clause-is : goal.returns-in-Err-clause-is
 returns-in-Err-clause-is g c =
@@ -38,6 +40,7 @@ loop-turn-preserved g c =
     let here = forever_here r c.args.at c.args.label.now c.args.body.now law c.args.runner.now.room _ c.loop-turn.invariant.way c.loop-turn-test.true in
     record {
       way = asked_on law going_of (later (further_turns r c.args.at c.args.label.now c.args.body.now _)) here c.in_ok-end.end tt c.in_ok-end.ensures.is (search rules);
+      suits = c.in_ok-end.ensures.suits;
       keeps = c.in_ok-end.ensures.keeps ∙ c.loop-turn.invariant.keeps;
     }
 

@@ -1,4 +1,5 @@
-use Rattle.std.proofs.Common.{◌≡◌, ◌-◌}
+use Rattle.std.proofs.Common.{◌≡◌, ◌-◌, Some}
+use Rattle.pl_quick.specs.Acts.{Suits}
 use Rattle.pl_engine.specs.Answers.{Partway}
 use Rattle.pl_engine.specs.Engines.{kept, world}
 use Rattle.pl_engine.specs.Texts.{do_bodies}
@@ -10,5 +11,6 @@ abbrev pub invariant-loop-turn : goal.invariant-loop-turn
 invariant-loop-turn g l = record {
   way : Partway g.P.Port (loop (runner_for do_bodies l.runner.room) l.at l.label (tested (runner_for do_bodies l.runner.room) l.at l.condition) l.body (world l.fn.engine))
       (turns (l.runner.room - l._turn) (runner_for do_bodies l.runner.room) l.at l.label (tested (runner_for do_bodies l.runner.room) l.at l.condition) l.body (world l.engine)) l.fn.engine l.engine l.fn.port l.port;
+  suits : Suits l.quick (Some l.condition) l.body (world l.engine);
   keeps : kept l.engine ≡ kept l.fn.engine;
 }

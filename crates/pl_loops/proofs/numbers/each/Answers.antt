@@ -13,7 +13,7 @@ use Rattle.std.proofs.lemmas.Int.{to_z-of_z}
 use Rattle.std.specs.Int.{w32}
 use Rattle.std.specs.Prelude.{FitsSigned}
 use Rattle.pl_engine.specs.pl_world.Statements.{runner_for}
-use Rattle.std.proofs.Common.{◌∙◌, ap, refl, rules, arith, ℤ}
+use Rattle.std.proofs.Common.{◌∙◌, ap, refl, rules, arith, ℤ, None}
 
 pub loop-number-init : goal.loop-number-init
 loop-number-init g c =
@@ -22,6 +22,7 @@ loop-number-init g c =
     record {
       way = start law (each r c.args.at c.args.label.now c.args.to c.args.body.now (numbers_in c.args.range) (world c.args.engine.now)) c.args.engine.now c.args.port.now c.requires.fits;
       integers = c.requires.integers;
+      suits = c.new-quick.ensures None c.args.body.now (world c.args.engine.now);
       keeps = refl;
     }
 
@@ -32,7 +33,7 @@ returns-in_err-end-clause-is g c =
     let fits : FitsSigned w32 c.in-Some.number = search rules in
     let set = c.set.ensures.is ∙ ap (λ (z : ℤ). with_value c.args.to (Int z) (world c.loop-number.engine)) (to_z-of_z w32 c.in-Some.number fits) in
     let here = each_here r c.args.at c.args.label.now c.args.to c.args.body.now law _ c.loop-number.invariant.way c.set.new.self c.in-Some.number (numbers_in c.next.new.self) c.in-Some.ensures.gives set in
-    refused c.turn.new.engine _ c.in_err-end.field-0.0 c.from_residual.ensures (asked_stopped law going_of (later (each_later r c.args.at c.args.label.now c.args.to c.args.body.now (numbers_in c.next.new.self))) here c.in_err-end.ensures.is)
+    refused c.turn_at_once.new.engine _ c.in_err-end.field-0.0 c.from_residual.ensures (asked_stopped law going_of (later (each_later r c.args.at c.args.label.now c.args.to c.args.body.now (numbers_in c.next.new.self))) here c.in_err-end.ensures.is)
 
 pub returns-in-Err-clause-is : goal.returns-in-Err-clause-is
 returns-in-Err-clause-is g c =
@@ -53,6 +54,7 @@ loop-number-preserved g c =
     record {
       way = asked_on law going_of (later (each_later r c.args.at c.args.label.now c.args.to c.args.body.now (numbers_in c.next.new.self))) here c.in_ok-end.end tt c.in_ok-end.ensures.is (search rules);
       integers = c.next.ensures.integers;
+      suits = c.in_ok-end.ensures.suits;
       keeps = c.in_ok-end.ensures.keeps ∙ (c.set.ensures.keeps ∙ c.loop-number.invariant.keeps);
     }
 
@@ -62,8 +64,8 @@ returns-clause-is g c =
     let r = runner_for do_bodies c.args.runner.now.room in
     each_end r c.args.at c.args.label.now c.args.to c.args.body.now law _ c.loop-number.invariant.way (search rules)
 
-pub turn-requires-clause-room : goal.turn-requires-clause-room
-turn-requires-clause-room g c =
+pub turn_at_once-requires-clause-room : goal.turn_at_once-requires-clause-room
+turn_at_once-requires-clause-room g c =
     let law = lawful g.P.Port g.met.P.Port.none g.met.P.Port.joins g.met.P.Port.rises in
     let r = runner_for do_bodies c.args.runner.now.room in
     let fits : FitsSigned w32 c.in-Some.number = search rules in
@@ -72,8 +74,8 @@ turn-requires-clause-room g c =
     let spent = here.told.spent in
     omega (arith, spent, c.requires.room)
 
-pub turn-requires-clause-fits : goal.turn-requires-clause-fits
-turn-requires-clause-fits g c =
+pub turn_at_once-requires-clause-fits : goal.turn_at_once-requires-clause-fits
+turn_at_once-requires-clause-fits g c =
     let law = lawful g.P.Port g.met.P.Port.none g.met.P.Port.joins g.met.P.Port.rises in
     let r = runner_for do_bodies c.args.runner.now.room in
     let fits : FitsSigned w32 c.in-Some.number = search rules in
