@@ -13,7 +13,7 @@ use Rattle.pl_natural.proofs.Goes.{BothIf, either, goes, makes, settles}
 use Rattle.pl_natural.specs.Kept.{PartsAgree, SubsAgree, kept}
 use Rattle.pl_value.specs.Combined.{is_in}
 use Rattle.pl_value.specs.Frames.{Frame, Row, first_or_null}
-use Rattle.pl_value.specs.Meaning.{Pair, Part, Step, Sub, all_of, cased, chained, chosen, coalesced, exists, holds, if_there, in_query, is_fixed, is_some, joined, joint, junction, met, one, only, or_absent, passed, passes, scalar, step_read, steps_read, truth, two, values}
+use Rattle.pl_value.specs.Meaning.{Pair, Part, Step, Sub, all_of, cased, chained, chosen, coalesced, exists, has_row, holds, if_there, in_query, is_fixed, is_some, joined, joint, junction, met, one, only, or_absent, passed, passes, scalar, step_read, steps_read, truth, two, values}
 use Rattle.pl_value.specs.Reading.{Reading, got, settled, then_read}
 
 module _ {W V : Type 0} (keep : W → V) where
@@ -150,7 +150,9 @@ module _ {W V : Type 0} (keep : W → V) where
         goes keep (sub query frame w) (sub' query frame (keep w)) (λ rows w. only rows w) (λ rows v. only rows v) (subs query frame w) only_agrees
 
     pub exists_agrees : (query : ℕ) → PartsAgree keep (exists sub query) (exists sub' query)
-    exists_agrees query frame w = makes keep (λ rows. Ok (Truth (is_some rows))) (sub query frame w) (sub' query frame (keep w)) (subs query frame w)
+    exists_agrees query frame w =
+        makes keep (λ b. Ok (Truth b)) (has_row sub query frame w) (has_row sub' query frame (keep w))
+        (makes keep (λ rows. Ok (is_some rows)) (sub query frame w) (sub' query frame (keep w)) (subs query frame w))
 
     pub in_query_agrees : (p : Part W) (p' : Part V) → PartsAgree keep p p' → (query : ℕ) (to : Ty) → PartsAgree keep (in_query sub p query to) (in_query sub' p' query to)
     in_query_agrees p p' same query to frame w =

@@ -176,9 +176,13 @@ module _ {W : Type 0} where
   abbrev pub scalar : Sub W → ℕ → Part W
   scalar sub query frame w = then_read (sub query frame w) (λ rows w. only rows w)
 
+  -- whether a query inside has a row
+  abbrev pub has_row : Sub W → ℕ → Frame → W → Reading W Bool
+  has_row sub query frame w = then_read (sub query frame w) (λ rows w. got (is_some rows) w)
+
   -- EXISTS
   abbrev pub exists : Sub W → ℕ → Part W
-  exists sub query frame w = then_read (sub query frame w) (λ rows w. got (Truth (is_some rows)) w)
+  exists sub query frame w = then_read (has_row sub query frame w) (λ b w. got (Truth b) w)
 
   -- IN with a query
   abbrev pub in_query : Sub W → Part W → ℕ → Ty → Part W

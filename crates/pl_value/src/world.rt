@@ -4,7 +4,7 @@ ghost use Rattle.std.specs.Prelude.{List, ℕ};
 ghost use Rattle.pl_base.specs.declared.value.Value as base;
 ghost use Rattle.pl_value.specs.Answers.{Reads};
 ghost use Rattle.pl_value.specs.Frames.{rows_of};
-ghost use Rattle.pl_value.specs.Meaning.{Sub};
+ghost use Rattle.pl_value.specs.Meaning.{Sub, has_row};
 ghost use Rattle.pl_value.specs.Reading.{Reading};
 
 use crate::{Lent, Unsettled};
@@ -42,6 +42,18 @@ pub trait Subqueries<C> {
     ) -> Result<List<Cells>, Unsettled>
         requires { can self.now }
         ensures { Reads (sub self.now query (rows_of frame.now) caller.old) result caller.new };
+
+    /// Whether the query of this number has a row. It fails where the rows would.
+    fn has_row(
+        &self,
+        alloc: Global,
+        query: usize,
+        frame: &[Lent<'_>],
+        caller: &mut C,
+    ) -> Result<bool, Unsettled>
+        requires { can self.now }
+        ensures { Reads (has_row (sub self.now) query (rows_of frame.now) caller.old)
+            result caller.new };
 }
 
 /// Knows no routine: each call is 42883.
@@ -78,5 +90,9 @@ impl<C> Subqueries<C> for NoQueries {
         _: &mut C,
     ) -> Result<List<Cells>, Unsettled> {
         Ok(List::new(alloc))
+    }
+
+    fn has_row(&self, _: Global, _: usize, _: &[Lent<'_>], _: &mut C) -> Result<bool, Unsettled> {
+        Ok(false)
     }
 }
