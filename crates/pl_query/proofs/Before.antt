@@ -7,7 +7,7 @@ use Rattle.pl_resolved.specs.declared.query.RQuery.{RQuery}
 use Rattle.pl_value.specs.Answers.{Reads}
 use Rattle.pl_value.specs.Frames.{Row, Frame}
 use Rattle.pl_value.specs.Meaning.{Calls}
-use Rattle.pl_value.specs.Reading.{Reading, got}
+use Rattle.pl_value.specs.Reading.{Reading, got, then_read}
 use Rattle.pl_value.specs.declared.operand.Unsettled.{Unsettled}
 
 other : {A : Type 0} (b : Bool) (n at : ℕ) → (at == n) ≡ b → suc n ≤ at → (x y z : A) → y ≡ z → cond b x y ≡ z
@@ -35,6 +35,14 @@ module _ {W : Type 0} (calls : Calls W) (qs : List RQuery) (tables : Tables) whe
       (query_if calls (rows_before calls qs tables at) tables (slice_get qs at) outer w)
       (λ same. ap (λ (k : ℕ). query_if calls (rows_before calls qs tables k) tables (slice_get qs k) outer w) (sym same))
       (found n at outer w)
+
+  -- what is asked of a query below the limit
+  pub asked_found : {A : Type 0} (n at : ℕ) (outer : Frame) (w : W) (q : RQuery) (k : List Row → W → Reading W A) (answer : Reading W A) → at < n → slice_get qs at ≡ Some q
+      → then_read (query calls (rows_before calls qs tables at) tables q outer w) k ≡ answer → then_read (rows_before calls qs tables n at outer w) k ≡ answer
+  asked_found n at outer w q k answer lt is asked =
+      ap (λ (x : Reading W (List Row)). then_read x k)
+      (found n at outer w lt ∙ ap (λ (o : Option RQuery). query_if calls (rows_before calls qs tables at) tables o outer w) is)
+      ∙ asked
 
   pub is_none : (n at : ℕ) (outer : Frame) (w : W) (made : List Row) → n ≤ at → made ≡ [] → rows_before calls qs tables n at outer w ≡ got made w
   is_none n at outer w made le new = none n at outer w le ∙ ap (λ (rows : List Row). got rows w) (sym new)

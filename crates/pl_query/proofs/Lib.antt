@@ -14,3 +14,4 @@ mod Few
 mod Standing
 mod Passing
 mod Turns
+mod Single

@@ -10,3 +10,4 @@ pub mod Serves
 pub mod Kept
 pub mod Along
 pub mod Straight
+pub mod Presence

@@ -7,6 +7,7 @@ mod draws;
 mod ending;
 mod groups;
 mod listed;
+mod presence;
 mod query;
 mod rows;
 mod running;

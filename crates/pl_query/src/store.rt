@@ -3,13 +3,14 @@
 ghost use Rattle.std.specs.Prelude.{◌≡◌, IfOk, IfSome, List, ℕ};
 ghost use Rattle.pl_base.specs.declared.value.Value as base;
 ghost use Rattle.pl_query.specs.LeftOut.{IsFew};
-ghost use Rattle.pl_query.specs.Sources.{alone};
+ghost use Rattle.pl_query.specs.Sources.{alone, frames};
 ghost use Rattle.pl_value.specs.Frames.{rows_of};
 
 use crate::Tables;
 use crate::cache::{KeptTable, find, keep_all};
 use crate::draws::Draw;
 use pl_base::Name;
+use pl_product::Bundles;
 use pl_resolved::{RExpr, RQuery};
 use pl_value::Lent;
 use std::alloc::{AllocError, Global};
@@ -35,6 +36,10 @@ pub trait Lender {
     ) -> Result<Option<Draw<'s>>, AllocError>
         ensures { IfOk result (λ few. IfSome few (λ d. IsFew C condition.now (rows_of around.now)
             (table self.now name) d)) };
+
+    /// The rows of the table of this name, where they are kept.
+    fn kept_rows<'s>(&'s self, name: Name) -> Option<&'s Bundles<'s>>
+        ensures { IfSome result (λ b. b.now ≡ frames (alone (table self.now name))) };
 }
 
 /// The tables, and the rows of those that queries inside of others read. Contracts see the tables
@@ -98,6 +103,16 @@ impl<'t, T: Tables> Store<'t, T> {
             None => read_few::<C, T>(alloc, self.tables, name, condition, around),
         }
     }
+
+    // Its rows, where they are kept.
+    fn rows_kept<'s>(&'s self, name: Name) -> Option<&'s Bundles<'s>>
+        ensures { IfSome result (λ b. b.now ≡ frames (alone (T.table self.now name))) }
+    {
+        match find(self.kept.as_slice(), name) {
+            Some(table) => Some(&table.bundles),
+            None => None,
+        }
+    }
 }
 
 impl<'t, T: Tables> Lender for Store<'t, T> {
@@ -115,6 +130,10 @@ impl<'t, T: Tables> Lender for Store<'t, T> {
         around: &[Lent<'e>],
     ) -> Result<Option<Draw<'s>>, AllocError> {
         self.draw_for::<C>(alloc, name, condition, around)
+    }
+
+    fn kept_rows<'s>(&'s self, name: Name) -> Option<&'s Bundles<'s>> {
+        self.rows_kept(name)
     }
 }
 

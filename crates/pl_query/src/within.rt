@@ -9,6 +9,7 @@ ghost use Rattle.pl_value.specs.Answers.{Reads};
 ghost use Rattle.pl_value.specs.Frames.{rows_of};
 ghost use Rattle.pl_value.specs.Meaning as meaning;
 
+use crate::presence::{is_some, known_row};
 use crate::query::query_rows;
 use crate::store::Store;
 use crate::{Lender, Tables};
@@ -62,6 +63,23 @@ impl<
             caller,
         )
     }
+
+    fn has_row(
+        &self,
+        alloc: Global,
+        query: usize,
+        frame: &[Lent<'_>],
+        caller: &mut C,
+    ) -> Result<bool, Unsettled> {
+        let limit = self.limit;
+        match known_row::<C, T>(alloc, self.queries, self.tables, limit, query, frame)? {
+            Some(has_row) => Ok(has_row),
+            None => {
+                let rows = self.rows(alloc, query, frame, caller)?;
+                Ok(is_some(rows.as_slice()))
+            }
+        }
+    }
 }
 
 /// The queries of a statement, over what lends the rows of their tables.
@@ -92,6 +110,23 @@ impl<'a, C: Caller, T: Lender> Subqueries<C> for Queries<'a, T> {
             frame,
             caller,
         )
+    }
+
+    fn has_row(
+        &self,
+        alloc: Global,
+        query: usize,
+        frame: &[Lent<'_>],
+        caller: &mut C,
+    ) -> Result<bool, Unsettled> {
+        let limit = self.list.len();
+        match known_row::<C, T>(alloc, self.list, self.tables, limit, query, frame)? {
+            Some(has_row) => Ok(has_row),
+            None => {
+                let rows = self.rows(alloc, query, frame, caller)?;
+                Ok(is_some(rows.as_slice()))
+            }
+        }
     }
 }
 
