@@ -1,8 +1,9 @@
 -- A query over the row of its only table that WHERE may pass.
-use Rattle.std.proofs.Common.{◌≡◌, ◌+◌, refl, sym, ap, ◌∙◌, ℕ, Bool, true, false, cond, nat_lt, List, [], ◌∷◌, ◌++◌, Option, Some, None, length, map, slice_get, take, arith}
+use Rattle.std.proofs.Common.{◌≡◌, ◌+◌, refl, sym, ap, ◌∙◌, ℕ, Bool, true, false, cond, nat_lt, List, [], ◌∷◌, ◌++◌, Option, Some, None, Result, Ok, Err, IfOk, IfSome, length, map, slice_get, take, arith}
 use Rattle.std.specs.Option.{option_map}
 use Rattle.pl_base.specs.States.{PROGRAM_LIMIT_EXCEEDED}
 use Rattle.pl_base.specs.declared.value.Value.{Value}
+use Rattle.pl_calc.specs.Logic.{truth_value}
 use Rattle.pl_order.specs.Cut.{cut}
 use Rattle.pl_order.specs.Order.{order_by, sorted}
 use Rattle.pl_product.specs.Product.{extended, kept_if, row_limit}
@@ -21,8 +22,8 @@ use Rattle.pl_resolved.specs.declared.query.RGroups.{RGroups}
 use Rattle.pl_resolved.specs.declared.query.RJoin.{RJoin, out-RJoin}
 use Rattle.pl_resolved.specs.declared.query.RQuery.{RQuery}
 use Rattle.pl_value.specs.Frames.{Frame, Row}
-use Rattle.pl_value.specs.Meaning.{Calls, Part, Sub, is_some, passes, value, values}
-use Rattle.pl_value.specs.Reading.{Reading, got, fails, then_read}
+use Rattle.pl_value.specs.Meaning.{Calls, Part, Sub, is_so, is_some, passed, passes, value, values}
+use Rattle.pl_value.specs.Reading.{Reading, got, fails, settled, then_read}
 
 -- ---- the select list
 
@@ -32,7 +33,7 @@ are_values : {W : Type 0} (xs : List RExpr) (frame : Frame) → AreRead W xs fra
 are_values [] frame read done = (done, λ calls sub w. refl)
 are_values {W} (x ∷ xs) frame read done =
     let v = read.0.0 in
-    let rest = are_values {W} xs frame read.1 (done ++ v ∷ []) in (
+    let rest = are_values {W = W} xs frame read.1 (done ++ v ∷ []) in (
       rest.0,
       λ calls sub w.
           ap (λ (r : Reading W Value). then_read {B = List Value} r (λ v w. values (map (value calls sub) xs) (done ++ v ∷ []) frame w)) (read.0.1 calls sub w)
@@ -51,6 +52,15 @@ module _ {W : Type 0} (calls : Calls W) (sub : Sub W) (xs : List RExpr) (frame :
   one_listed w =
       ap (λ (b : Bool). then_read {A = List Frame} {B = List Row} (cond b (got (frame ∷ []) w) (fails PROGRAM_LIMIT_EXCEEDED w)) listed) (room_for 0 0 row_limit (omega arith))
       ∙ ap (λ (r : Reading W Row). then_read {A = List Row} {B = List Row} (then_read {A = Row} {B = List Row} r (λ row w. got (row ∷ []) w)) (λ done w. got done w)) ((are_values xs frame read []).1 calls sub w)
+
+-- ---- WHERE
+
+-- a truth that is read passes only if it is true
+pub truth_passes : {W : Type 0} (calls : Calls W) (sub : Sub W) (x : RExpr) (frame : Frame) (w : W) (t : Option Bool) → value calls sub x frame w ≡ got (truth_value t) w
+    → passes (value calls sub x) frame w ≡ got (is_so t) w
+truth_passes calls sub x frame w None is = ap (λ (r : Reading _ Value). then_read {B = Bool} r (λ v w. settled (passed v) w)) is
+truth_passes calls sub x frame w (Some true) is = ap (λ (r : Reading _ Value). then_read {B = Bool} r (λ v w. settled (passed v) w)) is
+truth_passes calls sub x frame w (Some false) is = ap (λ (r : Reading _ Value). then_read {B = Bool} r (λ v w. settled (passed v) w)) is
 
 -- ---- DISTINCT and ORDER BY leave a row where there is one
 
@@ -135,11 +145,11 @@ module _ {W : Type 0} (calls : Calls W) (sub : Sub W) (tables : Tables) (q : RQu
       ∙ (ap (λ (r : Reading W (List Frame)). asked (then_read r (lists b.items.now))) (sole calls sub w)
       ∙ ap (λ (b : Bool). got b w) (no_row q q.is_distinct))
 
-  passed : (is : Bool) (frame : Frame) → AreRead W b.items.now frame → asked (then_read (kept_if is frame [] w) (lists b.items.now)) ≡ got is w
-  passed true frame read =
+  row_passed : (is : Bool) (frame : Frame) → AreRead W b.items.now frame → asked (then_read (kept_if is frame [] w) (lists b.items.now)) ≡ got is w
+  row_passed true frame read =
       ap asked (one_listed calls sub b.items.now frame read w)
       ∙ ap (λ (b : Bool). got b w) (one_row q q.is_distinct (row calls sub b.items.now frame read))
-  passed false frame read = ap (λ (b : Bool). got b w) (no_row q q.is_distinct)
+  row_passed false frame read = ap (λ (b : Bool). got b w) (no_row q q.is_distinct)
 
   one_passes : (at : ℕ) (bundle : Frame) (is : Bool) → nat_lt standing_limit (length stands + 1) ≡ false → IsSole W x stands b.bundles.now (RowAt at) → slice_get b.bundles.now at ≡ Some bundle
       → PassesAs W b (stands ++ bundle) is → asks (got is w)
@@ -147,7 +157,7 @@ module _ {W : Type 0} (calls : Calls W) (sub : Sub W) (tables : Tables) (q : RQu
       asked_is few
       ∙ (ap (λ (r : Reading W (List Frame)). asked (then_read r (lists b.items.now))) (sole.1 bundle got-at calls sub w)
       ∙ (ap (λ (r : Reading W Bool). asked (then_read {A = List Frame} {B = List Row} (then_read {A = Bool} {B = List Frame} r (λ is w. kept_if is (stands ++ bundle) [] w)) (lists b.items.now))) (pass.condition calls sub w)
-      ∙ passed is (stands ++ bundle) pass.items))
+      ∙ row_passed is (stands ++ bundle) pass.items))
 
 -- none of the rows passes
 pub has_none : (W : Type 0) (tables : Tables) (q : RQuery) (b : Bare) (outer : Frame) → IsBare tables q b → nat_lt standing_limit (length (outer ++ [] ∷ []) + 1) ≡ false
@@ -158,3 +168,9 @@ has_none W tables q b outer bare few sole calls sub w = none_passes calls sub ta
 pub has_one : (W : Type 0) (tables : Tables) (q : RQuery) (b : Bare) (outer : Frame) → IsBare tables q b → (at : ℕ) (bundle : Frame) (is : Bool) → nat_lt standing_limit (length (outer ++ [] ∷ []) + 1) ≡ false
     → IsSole W b.condition.now (outer ++ [] ∷ []) b.bundles.now (RowAt at) → slice_get b.bundles.now at ≡ Some bundle → PassesAs W b ((outer ++ [] ∷ []) ++ bundle) is → HasRow W tables q outer is
 has_one W tables q b outer bare at bundle is few sole got-at pass calls sub w = one_passes calls sub tables q b outer bare w at bundle is few sole got-at pass
+
+-- what is known of an answer
+pub known_then : {E : Type 0} (r : Result (Option Bool) E) (P Q : Bool → Type 0) → ((b : Bool) → P b → Q b) → IfOk r (λ o. IfSome o P) → IfOk r (λ o. IfSome o Q)
+known_then (Ok (Some b)) P Q so is = so b is
+known_then (Ok None) P Q so is = tt
+known_then (Err e) P Q so is = tt

@@ -56,17 +56,16 @@ fn bare_in<'a, T: Lender>(query: &'a RQuery, tables: &'a T) -> Option<Bare<'a>>
 }
 
 // Each of the items names a value that stands.
-#[cycle(reading)]
 fn are_read<'a, C>(items: &'a [RExpr], frame: &[Lent<'a>]) -> bool
     ensures { result ≡ true → AreRead C items.now (rows_of frame.now) }
 {
-    match items {
-        [] => true,
-        [item, rest @ ..] => match leaf::<C>(item, frame) {
-            Some(_) => are_read::<C>(rest, frame),
-            None => false,
-        },
+    for item in items {
+        match leaf::<C>(item, frame) {
+            Some(_) => {}
+            None => return false,
+        }
     }
+    true
 }
 
 // Whether WHERE passes, where each of the items names a value that stands. None where that isn't
