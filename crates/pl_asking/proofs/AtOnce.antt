@@ -1,5 +1,6 @@
 -- Values that are read off the tree.
 use Rattle.std.proofs.Common.{◌≡◌, ◌∙◌, Bool, true, false, Option, Some, None, Ok, ap, refl, subst, sym}
+use Rattle.std.proofs.lemmas.Bool.{cond-true}
 use Rattle.std.specs.Prelude.{IfSome, not}
 use Rattle.pl_asking.proofs.Acts.{as_type_ok, kept_here, put_is, put_next, resolved_ok, truth_ok}
 use Rattle.pl_asking.proofs.Valued.{assigned_is, assigns_to, on_value, put_at, read_is, read_then, tested_is, truth_next}
@@ -8,8 +9,10 @@ use Rattle.pl_base.specs.declared.types.Ty.{Ty}
 use Rattle.pl_base.specs.declared.value.Value.{Value}
 use Rattle.pl_base.specs.declared.value.Value.TheVariants as value
 use Rattle.pl_bodies.specs.declared.simple.Target.{Target}
+use Rattle.pl_calc.specs.Casts.{cast_to, is_assignable}
 use Rattle.pl_calc.specs.Logic.{is_null}
 use Rattle.pl_direct.specs.Direct.{Valued}
+use Rattle.pl_direct.specs.Fitted.{Fits}
 use Rattle.pl_direct.specs.Known.{value_of}
 use Rattle.pl_direct.specs.Search.{StandsFor, meaning_of}
 use Rattle.pl_direct.specs.declared.known.Known.{Known}
@@ -27,7 +30,6 @@ use Rattle.pl_typing.specs.Resolved.{Resolved, ◌>>=◌}
 use Rattle.pl_value.specs.Reading.{Reading}
 use Rattle.pl_world.specs.Assigning.{takes}
 use Rattle.pl_world.specs.Calls.{Within, calls}
-use Rattle.pl_world.specs.Conversions.{converted}
 use Rattle.pl_world.specs.Errors.{Spot}
 use Rattle.pl_world.specs.Expressions.{begun, evaluated, inner, read, reads}
 use Rattle.pl_world.specs.Resolving.{Variable, aiming, giving, reading, result_of, target_means, variable_at}
@@ -92,12 +94,12 @@ taken : (is_required : Bool) (v : Value) → is_null v ≡ false → takes is_re
 taken true v is = ap (λ (b : Bool). not b) is
 taken false v is = refl
 
-pub assigned_at_once : (t : Target) (e : Expr) (w : World) (to : Variable) (k : Known) (v : Value) → aiming t w.database.objects w.frame.static ≡ Ok to → DirectlyIs e w k → converted to.ty (value_of k) ≡ Ok v → is_null v ≡ false
+pub assigned_at_once : (t : Target) (e : Expr) (w : World) (to : Variable) (k : Known) (v : Value) → aiming t w.database.objects w.frame.static ≡ Ok to → DirectlyIs e w k → Fits k to.ty v
     → AssignedAtOnce t e w to.at v
-assigned_at_once t e w to k v aims d fits there r at =
+assigned_at_once t e w to k v aims d fits r at =
     assigns_to r at t e w to aims
     ∙ (assigned_is r at to e w
     ∙ (read_at_once e w (value_of k) (at_once e w k (value_of k) d refl) r at (put_at to at)
     ∙ (put_is to (value_of k) at w
-    ∙ (as_type_ok to.ty (value_of k) at w (put_next to at) v fits
-    ∙ kept_here (takes to.is_required v) (with_value to.at v w) at w (taken to.is_required v there)))))
+    ∙ (as_type_ok to.ty (value_of k) at w (put_next to at) v (cond-true (is_assignable (value_of k) to.ty) (cast_to (value_of k) to.ty) _ fits.is_taken ∙ fits.is_value)
+    ∙ kept_here (takes to.is_required v) (with_value to.at v w) at w (taken to.is_required v fits.not_null)))))

@@ -4,10 +4,8 @@ use Rattle.std.specs.Prelude.{Result, Ok, Err, slice_get, unwrap_or}
 use Rattle.pl_base.specs.declared.types.Ty.{Ty}
 use Rattle.pl_base.specs.declared.value.Value.{Value}
 use Rattle.pl_base.specs.declared.value.Value.TheVariants.{Null}
-use Rattle.pl_calc.specs.Logic.{is_null}
 use Rattle.pl_calling.specs.Reading.{read_beside}
 use Rattle.pl_direct.specs.Direct.{Directly}
-use Rattle.pl_direct.specs.Known.{value_of as known_value}
 use Rattle.pl_direct.specs.declared.known.Known.{Known}
 use Rattle.pl_direct.specs.declared.search.Spot as found
 use Rattle.pl_calling.specs.pl_engine.Asks.{returned, truth}
@@ -17,7 +15,6 @@ use Rattle.pl_value.specs.Frames.{Row}
 use Rattle.pl_world.specs.Assigning.{assigned, put}
 use Rattle.pl_world.specs.Calls.{Within}
 use Rattle.pl_world.specs.Control.{tested}
-use Rattle.pl_world.specs.Conversions.{converted}
 use Rattle.pl_world.specs.Errors.{Spot, resolved}
 use Rattle.pl_world.specs.Expressions.{evaluated}
 use Rattle.pl_world.specs.Resolving.{Variable, aiming, giving, matching, placing, reading}
@@ -89,10 +86,6 @@ given_to s w = record {
 -- the target names this variable
 abbrev pub AimsAt : Target → World → found.Spot → Type 0
 AimsAt t w s = aiming t w.database.objects w.frame.static ≡ Ok (given_to s w)
-
--- this is the value as one of the type, and isn't null
-abbrev pub Fits : Ty → Known → Value → Type 0
-Fits t k v = (converted t (known_value k) ≡ Ok v) × (is_null v ≡ false)
 
 -- an assignment gives the variable of this place this value at once
 abbrev pub AssignedAtOnce : Target → Expr → World → ℕ → Value → Type 0

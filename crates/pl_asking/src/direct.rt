@@ -90,31 +90,6 @@ pub(crate) fn aim_at_once<'a>(engine: &'a Engine, target: &Target) -> Option<Spo
     }
 }
 
-// A number or a truth as one of this type. None where that is neither, or can't hold it.
-fn fitted(known: Known, ty: &Ty) -> Option<Value>
-    ensures { IfSome result (λ v. spec.Fits ty.now known v) }
-{
-    match known {
-        Known::Int(number) => match ty {
-            Ty::Int => Some(Value::Int(number)),
-            Ty::Big => Some(Value::Big(i64::from(number))),
-            _ => None,
-        },
-        Known::Big(number) => match ty {
-            Ty::Int => match i32::try_from(number) {
-                Ok(number) => Some(Value::Int(number)),
-                Err(_) => None,
-            },
-            Ty::Big => Some(Value::Big(number)),
-            _ => None,
-        },
-        Known::Bool(truth) => match ty {
-            Ty::Bool => Some(Value::Bool(truth)),
-            _ => None,
-        },
-    }
-}
-
 /// What an assignment gives to which variable. None where the target or the value has to be
 /// resolved.
 pub(crate) fn stored_at_once(engine: &Engine, target: &Target, e: &Expr) -> Option<Stored>
@@ -123,7 +98,7 @@ pub(crate) fn stored_at_once(engine: &Engine, target: &Target, e: &Expr) -> Opti
 {
     let spot = aim_at_once(engine, target)?;
     let known = known_at_once(engine, e)?;
-    let value = fitted(known, &spot.seen.ty)?;
+    let value = known.fitted(&spot.seen.ty)?;
     Some(Stored {
         column: spot.column,
         value,

@@ -1,4 +1,5 @@
 pub mod Direct
+pub mod Fitted
 pub mod Known
 pub mod Runs
 pub mod Search

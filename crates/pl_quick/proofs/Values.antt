@@ -1,5 +1,6 @@
 -- Conditions and assignments whose values are read at once.
 use Rattle.std.proofs.Common.{◌≡◌, ◌∙◌, Bool, true, false, List, Option, Some, None, Ok, ap, if◌then◌else◌, not, refl, subst, sym}
+use Rattle.std.proofs.lemmas.Bool.{cond-true}
 use Rattle.std.specs.Prelude.{IfSome, slice_get, unwrap_or}
 use Rattle.pl_base.specs.declared.value.Value.{Value}
 use Rattle.pl_base.specs.declared.value.Value.TheVariants as value
@@ -11,7 +12,9 @@ use Rattle.pl_bodies.specs.declared.statement.Branch.{Branch}
 use Rattle.pl_bodies.specs.declared.statement.Otherwise.{Otherwise}
 use Rattle.pl_bodies.specs.declared.statement.StatementKind.TheOpen as kind
 use Rattle.pl_calc.specs.Answer.{Answer}
+use Rattle.pl_calc.specs.Casts.{cast_to, is_assignable}
 use Rattle.pl_calc.specs.Logic.{is_null}
+use Rattle.pl_direct.specs.Fitted.{Fits}
 use Rattle.pl_direct.specs.Known.{value_of}
 use Rattle.pl_direct.specs.Search.{StandsFor, meaning_of}
 use Rattle.pl_direct.specs.declared.known.Known.{Known}
@@ -38,7 +41,6 @@ use Rattle.pl_names.specs.declared.found.Meaning.{Meaning}
 use Rattle.pl_names.specs.declared.scope.Scope.{Scope}
 use Rattle.pl_quick.specs.Acts.{IsReadIf}
 use Rattle.pl_quick.specs.Computing.{HasValue, outcome_of}
-use Rattle.pl_quick.specs.Fitted.{Fits}
 use Rattle.pl_quick.specs.declared.acting.End.{End}
 use Rattle.pl_tree.specs.declared.tree.Expr.{Expr}
 use Rattle.pl_typing.specs.Resolved.{Resolved, ◌>>=◌}
@@ -97,15 +99,15 @@ module _ (r : Runner) (at : Spot) (w : World) where
   unfolding simple_form
   assign_form t e = refl
 
-  pub assigns : (t : Target) (e : Expr) (to : Variable) (x : ResolvedExpr) (k : Known) (v : Value) → aiming t w.database.objects w.frame.static ≡ Ok to → reading e w.database.objects w.frame.static ≡ Ok x → HasValue x k w → Fits to.ty k v
+  pub assigns : (t : Target) (e : Expr) (to : Variable) (x : ResolvedExpr) (k : Known) (v : Value) → aiming t w.database.objects w.frame.static ≡ Ok to → reading e w.database.objects w.frame.static ≡ Ok x → HasValue x k w → Fits k to.ty v
       → simple_form r at (simple.Assign t e) w ≡ ends outcome.Next (with_value to.at v w)
   assigns t e to x k v aims reads has fits =
       assign_form t e
       ∙ (resolved_ok (placing t e w.database.objects w.frame.static) at w (λ p. assigned r at p w) (record { to = to; value = x }) (placed t e to x aims reads)
       ∙ (assigned_is (record { to = to; value = x })
       ∙ (evaluated_is x k (λ v w. put to v at w) has
-      ∙ (typed to (value_of k) v fits.0
-      ∙ kept (takes to.is_required v) (with_value to.at v w) (taken to.is_required v fits.1)))))
+      ∙ (typed to (value_of k) v (cond-true (is_assignable (value_of k) to.ty) (cast_to (value_of k) to.ty) _ fits.is_taken ∙ fits.is_value)
+      ∙ kept (takes to.is_required v) (with_value to.at v w) (taken to.is_required v fits.not_null)))))
 
   -- ---- EXIT and CONTINUE
 

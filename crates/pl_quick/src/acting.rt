@@ -20,7 +20,6 @@ ghost use Rattle.pl_quick.specs.Old.{Tracked};
 ghost use Rattle.pl_tree.specs.declared.tree.Expr.{Expr};
 
 use crate::act::{Act, Arm, Assign};
-use crate::fitting::fitted;
 use crate::old::{Old, assign};
 use crate::reading::{number_or_truth, truth};
 use pl_base::Shared;
@@ -92,7 +91,7 @@ fn give(a: &Assign, engine: &mut Engine, olds: &mut Vec<Old>) -> End
     let Some(known) = known_value(&*engine, &a.value) else {
         return End::Left;
     };
-    let Some(value) = fitted(known, &a.ty) else {
+    let Some(value) = known.fitted(&a.ty) else {
         return End::Left;
     };
     if assign(engine, olds, a.column, value) {

@@ -6,14 +6,12 @@
 
 mod act;
 mod acting;
-mod fitting;
 mod making;
 mod old;
 mod quick;
 mod reading;
 mod turning;
 
-pub use fitting::fitted;
 pub use pl_direct;
 pub use pl_engine;
 pub use quick::Quick;
