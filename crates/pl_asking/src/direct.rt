@@ -6,36 +6,16 @@ ghost use Rattle.pl_calling.specs.pl_engine.Engines.{world};
 
 use pl_base::{Ty, Value};
 use pl_bodies::Target;
-use pl_calling::pl_engine::Engine;
+use pl_calling::pl_engine::{Engine, Moment};
 use pl_direct::{Known, Spot, direct_value, direct_variable};
 use pl_tree::Expr;
-use std::marker::Model;
-
-// What is left of a world within an evaluation. It stands in contracts alone.
-#[derive(Drop)]
-struct Inside;
-
-impl Model for Inside {
-    ghost use Rattle.std.specs.Coded.{codes};
-    ghost use Rattle.pl_base.specs.contracts.value.Value as value;
-    ghost use Rattle.pl_catalog.specs.contracts.object.Object as object;
-    ghost use Rattle.pl_calling.specs.Standing.{nowhere};
-    ghost use Rattle.pl_world.specs.Calls.{Within};
-    ghost use Rattle.pl_world.specs.Expressions.{begun};
-
-    ghost Value = { Within };
-
-    ghost coded = { Prim.hlevel (codes, value.the_row.coded, object.the_row.coded) };
-
-    ghost view = { λ _. begun nowhere };
-}
 
 fn known_at_once(engine: &Engine, e: &Expr) -> Option<Known>
     ensures { IfSome result (λ known. spec.DirectlyIs e.now (world engine.now) known) }
 {
     let catalog = engine.journal().catalog();
     let scope = engine.declared().scope();
-    direct_value::<Inside>(catalog, scope, e, engine.values())
+    direct_value::<Moment>(catalog, scope, e, engine.values())
 }
 
 /// The value of an expression that needs no more than the variables. None where it has to be

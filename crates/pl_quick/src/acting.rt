@@ -26,8 +26,7 @@ use pl_base::Shared;
 use pl_bodies::Jump;
 use pl_direct::Known;
 use pl_direct::pl_scope::ResolvedExpr;
-use pl_engine::Engine;
-use std::marker::Model;
+use pl_engine::{Engine, Moment};
 
 /// How acts ended.
 #[derive(Clone, Copy)]
@@ -43,31 +42,11 @@ pub(crate) enum End {
     Left,
 }
 
-// What is left of a world within an evaluation. It stands in contracts alone.
-#[derive(Drop)]
-struct Inside;
-
-impl Model for Inside {
-    ghost use Rattle.std.specs.Coded.{codes};
-    ghost use Rattle.pl_base.specs.contracts.value.Value as value;
-    ghost use Rattle.pl_catalog.specs.contracts.object.Object as object;
-    ghost use Rattle.pl_engine.specs.pl_journal.Operation.{empty};
-    ghost use Rattle.pl_engine.specs.pl_world.Calls.{Within};
-    ghost use Rattle.pl_engine.specs.pl_world.Expressions.{begun};
-    ghost use Rattle.pl_engine.specs.pl_world.Sessions.{new_world};
-
-    ghost Value = { Within };
-
-    ghost coded = { Prim.hlevel (codes, value.the_row.coded, object.the_row.coded) };
-
-    ghost view = { λ _. begun (new_world empty) };
-}
-
 #[inline(always)]
 fn known_value(engine: &Engine, e: &Shared<ResolvedExpr>) -> Option<Known>
     ensures { IfSome result (λ known. spec.HasValue e.now known (world engine.now)) }
 {
-    number_or_truth::<Inside>(e.get().typed.tree.get(), engine.values())
+    number_or_truth::<Moment>(e.get().typed.tree.get(), engine.values())
 }
 
 /// Whether a condition is true. None where that isn't read at once.
@@ -75,7 +54,7 @@ fn known_value(engine: &Engine, e: &Shared<ResolvedExpr>) -> Option<Known>
 pub(crate) fn holds(engine: &Engine, e: &Shared<ResolvedExpr>) -> Option<bool>
     ensures { IfSome result (λ b. spec.HasValue e.now (Known.Bool b) (world engine.now)) }
 {
-    truth::<Inside>(e.get().typed.tree.get(), engine.values())
+    truth::<Moment>(e.get().typed.tree.get(), engine.values())
 }
 
 // ---- statements that hold no other
