@@ -12,7 +12,5 @@ mod quick;
 mod reading;
 mod turning;
 
-pub use pl_direct;
-pub use pl_engine;
 pub use quick::Quick;
 pub use turning::Turned;
