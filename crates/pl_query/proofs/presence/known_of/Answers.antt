@@ -4,7 +4,7 @@ use Rattle.pl_product.specs.declared.sole.Sole.{Sole}
 use Rattle.pl_product.specs.declared.sole.Sole.TheVariants.{Nothing, Row}
 use Rattle.pl_query.proofs.Few.{if_some_then}
 use Rattle.pl_query.proofs.Single.{has_none, has_one}
-use Rattle.pl_query.specs.Presence.{HasRow, IsBare, PassesAs}
+use Rattle.pl_query.specs.Presence.{PassesAs}
 use Rattle.pl_query.specs.Sources.{standing_limit}
 use Rattle.pl_value.specs.Frames.{Frame, rows_of}
 use Rattle.pl_value.specs.declared.operand.Lent.{Lent}
