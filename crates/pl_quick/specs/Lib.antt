@@ -2,3 +2,4 @@ pub mod Computing
 pub mod Acts
 pub mod Chosen
 pub mod Old
+pub mod Scratch

@@ -10,6 +10,7 @@ mod making;
 mod old;
 mod quick;
 mod reading;
+mod scratch;
 mod turning;
 
 pub use quick::Quick;

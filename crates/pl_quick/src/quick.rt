@@ -11,7 +11,7 @@ ghost use Rattle.pl_quick.specs.declared.turning.Turned.TheVariants as turned;
 ghost use Rattle.pl_tree.specs.declared.tree.Expr.{Expr};
 
 use crate::making::{DEPTH, acts_for, asked_for};
-use crate::old::Old;
+use crate::scratch::Scratch;
 use crate::turning::{Round, Turned, round_by};
 use pl_bodies::Statement;
 use pl_engine::{Engine, Spot};
@@ -35,8 +35,7 @@ const EARLY_ROUNDS: u32 = 2;
 #[derive(Drop)]
 pub struct Quick {
     plan: Plan,
-    /// What the variables were before the newest turn.
-    olds: Vec<Old>,
+    scratch: Scratch,
 }
 
 // None where a statement does more than compute, or something isn't resolved.
@@ -76,7 +75,7 @@ impl Quick {
     {
         Quick {
             plan: Plan::Waiting(EARLY_ROUNDS),
-            olds: Vec::new(alloc),
+            scratch: Scratch::new(alloc),
         }
     }
 
@@ -103,7 +102,7 @@ impl Quick {
     {
         self.wait(engine, at, condition, body);
         match &self.plan {
-            Plan::Made(round) => match round_by(round, engine, &mut self.olds) {
+            Plan::Made(round) => match round_by(round, engine, &mut self.scratch) {
                 Turned::Left => {
                     self.plan = Plan::GivenUp;
                     Turned::Left
