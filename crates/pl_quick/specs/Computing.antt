@@ -90,6 +90,7 @@ abbrev pub outcome_of : End → Option Outcome
 outcome_of end.Next = Some outcome.Next
 outcome_of end.Exit = Some (jumped jump.Exit None)
 outcome_of end.Continue = Some (jumped jump.Continue None)
+outcome_of (end.Return k) = Some (outcome.Return (value_of k))
 outcome_of end.Left = None
 
 -- each of these wherever there is room for the steps that are left

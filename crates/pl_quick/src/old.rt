@@ -15,8 +15,8 @@ pub(crate) struct Old {
     pub value: Option<Known>,
 }
 
-// Null, a number or a truth. None for any other value.
-fn known_or_null(value: &Value) -> Option<Option<Known>>
+/// Null, a number or a truth. None for any other value.
+pub(crate) fn known_or_null(value: &Value) -> Option<Option<Known>>
     ensures { IfSome result (λ known. value.now ≡ old_value known) }
 {
     match value {

@@ -36,6 +36,8 @@ const EARLY_ROUNDS: u32 = 2;
 pub struct Quick {
     plan: Plan,
     scratch: Scratch,
+    /// Of calls.
+    inner: Scratch,
 }
 
 // None where a statement does more than compute, or something isn't resolved.
@@ -50,7 +52,7 @@ fn round_for(
     ensures is { world engine.new ≡ world engine.old }
     ensures keeps { kept engine.new ≡ kept engine.old }
 {
-    let acts = acts_for(engine, body, DEPTH)?;
+    let acts = acts_for(engine, body, DEPTH, true)?;
     let condition = asked_for(engine, at, condition)?;
     Some(Round { condition, acts })
 }
@@ -76,6 +78,7 @@ impl Quick {
         Quick {
             plan: Plan::Waiting(EARLY_ROUNDS),
             scratch: Scratch::new(alloc),
+            inner: Scratch::new(alloc),
         }
     }
 
@@ -102,7 +105,7 @@ impl Quick {
     {
         self.wait(engine, at, condition, body);
         match &self.plan {
-            Plan::Made(round) => match round_by(round, engine, &mut self.scratch) {
+            Plan::Made(round) => match round_by(round, engine, &mut self.scratch, &mut self.inner) {
                 Turned::Left => {
                     self.plan = Plan::GivenUp;
                     Turned::Left

@@ -14,6 +14,7 @@ pub(crate) struct Scratch {
     pub steps: u64,
     /// What the variables were, the newest last, so that all can be undone.
     pub olds: Vec<Old>,
+    pub alloc: Global,
 }
 
 impl Scratch {
@@ -23,6 +24,7 @@ impl Scratch {
             values: List::new(alloc),
             steps: 0,
             olds: Vec::new(alloc),
+            alloc,
         }
     }
 

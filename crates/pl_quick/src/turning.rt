@@ -50,8 +50,9 @@ fn take_back(scratch: &mut Scratch, steps: u64)
     scratch.steps = steps;
 }
 
-// A turn, which takes a step, and its statements. Where one of them can't be done so, nothing is.
-fn turn_in(acts: &[Act], scratch: &mut Scratch) -> Turned
+// A turn, which takes a step, and its statements. Where one of them can't be done so, nothing is;
+// nor where one is a RETURN, which ends more than the loop.
+fn turn_in(acts: &[Act], scratch: &mut Scratch, inner: &mut Scratch) -> Turned
     requires none { scratch.old.olds.items ≡ [] }
     ensures { (w : World) (n : ℕ) (body : List Statement) → AreFor n acts.now body w
         → TurnedAs result None body (in_world scratch.old w) (in_world scratch.new w) }
@@ -60,10 +61,14 @@ fn turn_in(acts: &[Act], scratch: &mut Scratch) -> Turned
     if !scratch.take_step() {
         return Turned::Left;
     }
-    match act_all(acts, scratch) {
+    match act_all(acts, scratch, inner) {
         End::Next => Turned::On,
         End::Continue => Turned::On,
         End::Exit => Turned::Over,
+        End::Return(_) => {
+            take_back(scratch, steps);
+            Turned::Left
+        }
         End::Left => {
             take_back(scratch, steps);
             Turned::Left
@@ -82,14 +87,14 @@ fn asked(condition: &Option<Shared<ResolvedExpr>>, scratch: &Scratch) -> Option<
     }
 }
 
-fn round_in(round: &Round, scratch: &mut Scratch) -> Turned
+fn round_in(round: &Round, scratch: &mut Scratch, inner: &mut Scratch) -> Turned
     requires none { scratch.old.olds.items ≡ [] }
     ensures { (w : World) (condition : Option Expr) (body : List Statement)
         → RoundFits round.now condition body w
         → TurnedAs result condition body (in_world scratch.old w) (in_world scratch.new w) }
 {
     match asked(&round.condition, &*scratch) {
-        Some(true) => turn_in(round.acts.as_slice(), scratch),
+        Some(true) => turn_in(round.acts.as_slice(), scratch, inner),
         Some(false) => Turned::Over,
         None => Turned::Left,
     }
@@ -121,7 +126,12 @@ fn give(engine: &mut Engine, scratch: &mut Scratch)
 }
 
 /// A round by what it does.
-pub(crate) fn round_by(round: &Round, engine: &mut Engine, scratch: &mut Scratch) -> Turned
+pub(crate) fn round_by(
+    round: &Round,
+    engine: &mut Engine,
+    scratch: &mut Scratch,
+    inner: &mut Scratch,
+) -> Turned
     ensures turned { (condition : Option Expr) (body : List Statement)
         → RoundFits round.now condition body (world engine.old)
         → TurnedAs result condition body (world engine.old) (world engine.new) }
@@ -129,7 +139,7 @@ pub(crate) fn round_by(round: &Round, engine: &mut Engine, scratch: &mut Scratch
     ensures keeps { kept engine.new ≡ kept engine.old }
 {
     take(engine, scratch);
-    let turned = round_in(round, scratch);
+    let turned = round_in(round, scratch, inner);
     give(engine, scratch);
     turned
 }

@@ -1,7 +1,8 @@
 use Rattle.std.proofs.Common.{◌≡◌, ◌∙◌, Bool, None, Some, ap, drop_of_length-le, false, refl, rules, subst, sym, true}
 use Rattle.std.proofs.lemmas.Option.{IfSome_then}
 use Rattle.pl_direct.specs.declared.known.Known.TheVariants.{Bool as Truth}
-use Rattle.pl_quick.proofs.Forms.{acts_off, acts_on, all_arms_left, all_left, arm_does, assign_does, choice_does, front, jump_does, no_arm_left, none_left, nothing_does, one_does, others_left}
+use Rattle.pl_quick.proofs.Called.{call_does}
+use Rattle.pl_quick.proofs.Forms.{acts_off, acts_on, all_arms_left, all_left, arm_does, assign_does, choice_does, front, jump_does, no_arm_left, none_left, nothing_does, one_does, others_left, return_does}
 use Rattle.pl_quick.proofs.Olds.{stepped_in}
 use Rattle.pl_quick.proofs.acting.+acting.Goals as goal
 use Rattle.pl_quick.specs.Computing.{IsValue, outcome_of}
@@ -48,6 +49,18 @@ act_form-returns-in-None t c =
           (λ n bs e stand otherwise. false_all.otherwise w c.as_slice-in-None.result.now o (in_world c.act_all.new.scratch w) all n bs e stand otherwise) stands);
       tracked = c.act_all.ensures.tracked ∙ c.choose.ensures.tracked;
     }
+
+pub act_form-returns-else-not-enter-clause-computes : goal.act_form-returns-else-not-enter-clause-computes
+act_form-returns-else-not-enter-clause-computes t c = λ w. IfSome_then (outcome_of c.leave_call.result) c.leave_call.ensures.computes (λ o leaves n k stands.
+    call_does n k w c.args.act.now _ _ _ _ _ _ o c.args.scratch.now c.enter.new.inner c.act_all-end.new.scratch c.leave_call.new.scratch c.act_all-end.result c.in-Call.is refl refl c.as_slice-in-Call.ensures
+    (c.if-not-enter.ensures refl) c.act_all-end.ensures.computes leaves stands)
+
+pub act_form-returns-in-Return : goal.act_form-returns-in-Return
+act_form-returns-in-Return t c = record {
+  computes = λ w. IfSome_then (outcome_of c.returned.result) (c.returned.ensures w) (λ o gives n k stands.
+      return_does n k (in_world c.args.scratch.now w) c.args.act.now _ _ o c.in-Return.is refl gives stands);
+  tracked = refl;
+}
 
 pub act_once-returns-then-not-take_step-clause-tracked : goal.act_once-returns-then-not-take_step-clause-tracked
 act_once-returns-then-not-take_step-clause-tracked t c = ap (λ (s : Scratch). undone_in s) c.if-not-take_step.ensures

@@ -10,7 +10,7 @@ returns c =
     let w3 = world c.give.new.engine in
     record {
       turned = λ condition body fits.
-          over_engine c.round_in.result condition body w0 w1 w3 c.take.new.scratch c.round_in.new.scratch c.take.ensures.is c.give.ensures.is (c.round_in.ensures w1 condition body (fits_within c.args.round.now condition body w0 w1 c.take.new.scratch c.take.ensures.is fits));
-      only = only_between w0 w1 w3 c.take.new.scratch c.round_in.new.scratch c.take.ensures.is c.give.ensures.is;
+          over_engine c.round_in-turned.result condition body w0 w1 w3 c.take.new.scratch c.round_in-turned.new.scratch c.take.ensures.is c.give.ensures.is (c.round_in-turned.ensures w1 condition body (fits_within c.args.round.now condition body w0 w1 c.take.new.scratch c.take.ensures.is fits));
+      only = only_between w0 w1 w3 c.take.new.scratch c.round_in-turned.new.scratch c.take.ensures.is c.give.ensures.is;
       keeps = c.give.ensures.keeps ∙ c.take.ensures.keeps;
     }

@@ -23,6 +23,10 @@ returns-in-Exit c =
     let took = c.if-not-take_step.ensures in
     λ w. by_exit c.args.acts.now (in_world c.args.scratch.now w) (in_world c.take_step.new.self w) took.0 (stepped_in w c.args.scratch.now c.take_step.new.self took) (in_world c.act_all.new.scratch w) c.act_all.result c.in-Exit.is (c.act_all.ensures.computes w)
 
+pub returns-in-Return : goal.returns-in-Return
+returns-in-Return c = λ w n body stand.
+    taken_back w c.args.scratch.now.steps c.args.scratch.now c.take_step.new.self c.act_all.new.scratch c.take_back.new.scratch c.requires.none c.if-not-take_step.ensures c.act_all.ensures.tracked c.take_back.ensures.values c.take_back.ensures.steps refl
+
 pub returns-in-Left : goal.returns-in-Left
 returns-in-Left c = λ w n body stand.
-    taken_back w c.args.scratch.now.steps c.args.scratch.now c.take_step.new.self c.act_all.new.scratch c.take_back.new.scratch c.requires.none c.if-not-take_step.ensures c.act_all.ensures.tracked c.take_back.ensures.values c.take_back.ensures.steps refl
+    taken_back w c.args.scratch.now.steps c.args.scratch.now c.take_step.new.self c.act_all.new.scratch c.take_back-in-Left.new.scratch c.requires.none c.if-not-take_step.ensures c.act_all.ensures.tracked c.take_back-in-Left.ensures.values c.take_back-in-Left.ensures.steps refl
