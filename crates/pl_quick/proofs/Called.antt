@@ -45,8 +45,15 @@ use Rattle.pl_quick.specs.declared.act.Assign.{Assign}
 use Rattle.pl_quick.specs.declared.acting.End.{End}
 use Rattle.pl_quick.specs.declared.acting.End.TheVariants as end
 use Rattle.pl_quick.specs.declared.scratch.Scratch.{Scratch}
-use Rattle.pl_resolved.specs.declared.expression.RExpr.{RExpr, the_lemmas}
+use Rattle.pl_resolved.specs.declared.expression.RArm.{RArm}
+use Rattle.pl_resolved.specs.declared.expression.RCase.{RCase}
+use Rattle.pl_resolved.specs.declared.expression.RChain.{RChain}
+use Rattle.pl_resolved.specs.declared.expression.RExpr.{RExpr, out-RExpr, the_lemmas}
+use Rattle.pl_resolved.specs.declared.expression.RExpr.TheOpen.{RExpr-F}
+use Rattle.pl_resolved.specs.declared.expression.RExpr.TheOpen as le
 use Rattle.pl_resolved.specs.declared.expression.RExpr.TheVariants as e
+use Rattle.pl_resolved.specs.declared.expression.RPair.{RPair}
+use Rattle.pl_resolved.specs.declared.expression.RStep.{RStep}
 use Rattle.pl_value.specs.Frames.{Frame}
 use Rattle.pl_value.specs.Meaning.{Calls, Sub, all_of, value}
 use Rattle.pl_value.specs.Reading.{Reading, then_read}
@@ -214,8 +221,22 @@ each_world P (Some o) every = every
 returned_as : (P : Outcome → Type 0) (e : End) (k : Known) → e ≡ end.Return k → IfSome (outcome_of e) P → P (outcome.Return (value_of k))
 returned_as P e k is some = subst (λ (e : End). IfSome (outcome_of e) P) is some
 
+-- the level of a call, and what it lists
+abbrev expr_layer : Type 0
+expr_layer = RExpr-F RExpr RArm RCase RChain RPair RStep
+
+abbrev called_layer : Name → List RExpr → expr_layer
+called_layer n xs = le.Call n xs
+
+abbrev listed : expr_layer → List RExpr
+listed (le.Call n xs) = xs
+listed x = []
+
+called_out : (n : Name) (xs : List RExpr) → out-RExpr (e.Call n xs) ≡ called_layer n xs
+called_out n xs = first_of (search (rules, the_lemmas), grind (arith, the_lemmas))
+
 call_same : (n m : Name) (xs ys : List RExpr) → e.Call n xs ≡ e.Call m ys → (n ≡ m) × (xs ≡ ys)
-call_same n m xs ys is = (cc, first_of (search (rules, the_lemmas), grind (arith, the_lemmas)))
+call_same n m xs ys is = (cc, ap listed (sym (called_out n xs) ∙ (ap (λ (x : RExpr). out-RExpr x) is ∙ called_out m ys)))
 
 pub call_does : (n : ℕ) (k : Layer) (w : World) (a : Act) (x x' : Assign) (ty ty' : Ty) (acts acts' : List Act) (o : Outcome) (s i j t : Scratch) (end_of : End) → a ≡ act.Call x ty acts → x' ≡ x → ty' ≡ ty → acts' ≡ acts → Enters x'.value s i
     → ((w : World) → IfSome (outcome_of end_of) (λ o. (n : ℕ) (ss : List Statement) → AreFor n acts' ss w → AllCompute ss o (in_world i w) (in_world j w))) → Leaves end_of x' ty' j.steps o s t → IsForForm n a k w → FormComputes k o (in_world s w) (in_world t w)
