@@ -15,7 +15,7 @@ returns c =
     let tree : c.get-2.result.now ≡ c.args.e.now.typed.tree = c.get-2.ensures ∙ ap (λ (x : ResolvedExpr). x.typed.tree) c.get.ensures in
     let few : nat_lt (length (world c.args.engine.now).below) most_calls ≡ true = let is = c.calls.ensures in let lt = c.if-calls-ge-MOST_CALLS.false in grind (arith, nat_tests, is, lt) in
     let named : routine_named c.in-Call.routine (routines_in (world c.args.engine.now).database.objects) ≡ Some c.in_ok-routine.routine.now =
-        ap (λ (os : List Object). routine_named c.in-Call.routine (routines_in os)) (sym (c.catalog.ensures ∙ ap (λ (db : Database). db.objects) c.journal.ensures.now)) ∙ sym c.in_ok-routine.ensures in
+    ap (λ (os : List Object). routine_named c.in-Call.routine (routines_in os)) (sym (c.catalog.ensures ∙ ap (λ (db : Database). db.objects) c.journal.ensures.now)) ∙ sym c.in_ok-routine.ensures in
     IfSome_then c.callee_for.result c.callee_for.ensures (λ callee is. record {
       name = c.in-Call.routine;
       arguments = c.in-Call.arguments;

@@ -14,11 +14,11 @@ pub returns-clause-computes : goal.returns-clause-computes
 returns-clause-computes c =
     let some : c.in-Some-Some.field-0 ≡ Some c.in-Some-Some.known = search rules in
     IfSome_then (outcome_of c.put.result) (each_world _ (outcome_of c.put.result) c.put.ensures.computes) (λ o puts. record {
-  known = c.in-Return.known;
-  returned = c.in-Return.is;
-  v = c.in-Some.value;
-  fits = c.in-Some.ensures;
-  puts = λ w at is_required.
-      ap (λ (v : Value). put (given_to c.args.a.now is_required) v at (computed_to c.args.scratch.now.values c.args.steps w)) (c.in-Some-Some.ensures ∙ ap (λ (k : Option Known). old_value k) some) ∙ puts w at is_required;
-  steps_left = c.put.ensures.steps;
-})
+      known = c.in-Return.known;
+      returned = c.in-Return.is;
+      v = c.in-Some.value;
+      fits = c.in-Some.ensures;
+      puts = λ w at is_required.
+          ap (λ (v : Value). put (given_to c.args.a.now is_required) v at (computed_to c.args.scratch.now.values c.args.steps w)) (c.in-Some-Some.ensures ∙ ap (λ (k : Option Known). old_value k) some) ∙ puts w at is_required;
+      steps_left = c.put.ensures.steps;
+    })
