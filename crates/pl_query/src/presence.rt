@@ -99,8 +99,30 @@ fn stand_before<'a>(alloc: Global, outer: &[Lent<'a>]) -> Result<Vec<Lent<'a>>, 
     Ok(stands)
 }
 
-// Whether the query has a row, over the rows around it. None where that isn't known at once.
-fn known_of<'a, C>(
+// Whether the query has a row, over the two rows around it: those that stand are no list.
+fn known_by_two<'a, C>(
+    alloc: Global,
+    bare: &Bare<'a>,
+    first: Lent<'a>,
+    second: Lent<'a>,
+) -> Result<Option<bool>, AllocError>
+    ensures { IfOk result (λ known. IfSome known (λ b. (tables : TablesOf) (q : RQuery)
+        → IsBare tables q bare.now
+        → HasRow C tables q (first.cells.now ∷ second.cells.now ∷ []) b)) }
+{
+    let empty = Lent { cells: &[] };
+    match sole_in::<C>(alloc, bare.bundles, bare.condition, &[first, second, empty])? {
+        Sole::Any => Ok(None),
+        Sole::Nothing => Ok(Some(false)),
+        Sole::Row(at) => match bare.bundles.get(at) {
+            [row] => Ok(passes_at_once::<C>(bare, &[first, second, empty, *row])),
+            _ => Ok(None),
+        },
+    }
+}
+
+// The same, over any rows.
+fn known_behind<'a, C>(
     alloc: Global,
     bare: &Bare<'a>,
     outer: &[Lent<'a>],
@@ -119,6 +141,21 @@ fn known_of<'a, C>(
             put_behind(&mut stands, bare.bundles.get(at))?;
             Ok(passes_at_once::<C>(bare, stands.as_slice()))
         }
+    }
+}
+
+// Whether the query has a row, over the rows around it. None where that isn't known at once.
+fn known_of<'a, C>(
+    alloc: Global,
+    bare: &Bare<'a>,
+    outer: &[Lent<'a>],
+) -> Result<Option<bool>, AllocError>
+    ensures { IfOk result (λ known. IfSome known (λ b. (tables : TablesOf) (q : RQuery)
+        → IsBare tables q bare.now → HasRow C tables q (rows_of outer.now) b)) }
+{
+    match outer {
+        [first, second] => known_by_two::<C>(alloc, bare, *first, *second),
+        _ => known_behind::<C>(alloc, bare, outer),
     }
 }
 
