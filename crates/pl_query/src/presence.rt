@@ -16,7 +16,7 @@ use crate::along::put_behind;
 use crate::query::only_table;
 use crate::sources::{are_too_many, expression_of};
 use crate::within::at_number;
-use pl_base::Cells;
+use pl_base::{Cells, Value};
 use pl_product::{Bundles, Sole, add_empty, sole_in, with_room};
 use pl_resolved::{RExpr, RQuery};
 use pl_value::{Lent, leaf, truth_in};
@@ -103,13 +103,14 @@ fn stand_before<'a>(alloc: Global, outer: &[Lent<'a>]) -> Result<Vec<Lent<'a>>, 
 fn known_by_two<'a, C>(
     alloc: Global,
     bare: &Bare<'a>,
-    first: Lent<'a>,
-    second: Lent<'a>,
+    first: &'a [Value],
+    second: &'a [Value],
 ) -> Result<Option<bool>, AllocError>
     ensures { IfOk result (λ known. IfSome known (λ b. (tables : TablesOf) (q : RQuery)
-        → IsBare tables q bare.now
-        → HasRow C tables q (first.cells.now ∷ second.cells.now ∷ []) b)) }
+        → IsBare tables q bare.now → HasRow C tables q (first.now ∷ second.now ∷ []) b)) }
 {
+    let first = Lent { cells: first };
+    let second = Lent { cells: second };
     let empty = Lent { cells: &[] };
     match sole_in::<C>(alloc, bare.bundles, bare.condition, &[first, second, empty])? {
         Sole::Any => Ok(None),
@@ -154,7 +155,7 @@ fn known_of<'a, C>(
         → IsBare tables q bare.now → HasRow C tables q (rows_of outer.now) b)) }
 {
     match outer {
-        [first, second] => known_by_two::<C>(alloc, bare, *first, *second),
+        [first, second] => known_by_two::<C>(alloc, bare, first.cells, second.cells),
         _ => known_behind::<C>(alloc, bare, outer),
     }
 }
