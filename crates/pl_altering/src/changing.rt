@@ -60,7 +60,7 @@ fn change_rows<B: Start, P: Port, R: BodyRunner>(
         room: calls.room,
     };
     let mut calling = Calling::<B, R>::begin(calls, engine, at);
-    let answer = run(&command, &inside, rows.as_slice(), &mut calling);
+    let answer = run(&command, &inside, rows, &mut calling);
     finish(engine, port, at, calling, answer)
 }
 
