@@ -1,5 +1,5 @@
 -- Things in turn, over what is kept of a state.
-use Rattle.std.proofs.Common.{◌≡◌, ◌<◌, ◌+◌, ◌∙◌, ℕ, List, [], ◌∷◌, Ok, Err, add-one, ap, drop, drop-cons, get_or, length, refl, sym}
+use Rattle.std.proofs.Common.{◌≡◌, ◌<◌, ◌+◌, ◌∙◌, ℕ, List, [], ◌∷◌, Ok, Err, add-one, ap, arith, drop, drop-cons, get_or, length, refl, suc, sym}
 use Rattle.pl_altering.specs.Entries.{entries, entry_of}
 use Rattle.pl_altering.specs.Settings.{ReadsOver}
 use Rattle.pl_altering.specs.declared.command.Command.{Command}
@@ -20,6 +20,11 @@ front xs i x lt is = rw (add-one, drop-cons xs i x lt, ← is) refl
 
 pub front_entry : (kept : List Entry) (i : ℕ) (e : Entry) → i < length kept → e ≡ get_or kept i e → entries (drop i kept) ≡ entry_of e ∷ entries (drop (i + 1) kept)
 front_entry kept i e lt is = ap (λ (es : List Entry). entries es) (front kept i e lt is)
+
+-- nothing is left where none is counted
+pub none_left : (kept : List Entry) → length kept ≡ 0 → entries kept ≡ []
+none_left [] none = refl
+none_left (e ∷ kept) none = absurd (let counts : suc (length kept) ≡ 0 = none in omega (arith, counts))
 
 module _ (command : Command) {A : Type 0} (adds : A → List Row → Within → Reading Within (List Row)) (all : List A) where
   abbrev keeps : Within → Standing

@@ -4,7 +4,6 @@ ghost use Rattle.std.specs.Prelude.{◌≡◌, slice_set, IfOk};
 ghost use Rattle.pl_world.specs.pl_change.Changes.{assigned};
 
 use pl_base::{Cells, Value};
-use pl_world::pl_change::copy_row;
 use std::alloc::{AllocError, Global};
 
 /// The row with these values in these columns.
@@ -13,12 +12,11 @@ pub(crate) fn assign(
     alloc: Global,
     mut columns: &[usize],
     mut values: &[Value],
-    row: &[Value],
+    row: Cells,
 ) -> Result<Cells, AllocError>
-    ensures { IfOk result (λ made. made
-        ≡ assigned columns.entry.now values.entry.now row.now) }
+    ensures { IfOk result (λ made. made ≡ assigned columns.entry.now values.entry.now row) }
 {
-    let mut made = copy_row(alloc, row)?;
+    let mut made = row;
     while let [column, others @ ..] = columns {
         let [value, more @ ..] = values else {
             return Ok(made);

@@ -12,13 +12,12 @@ ghost use Rattle.pl_world.specs.Statements.{runner_for};
 
 use crate::command::{AROUND, Command};
 use crate::keeping::rows_for;
-use crate::moment::Moment;
 use crate::running::run;
 use crate::taking::{add_as_found, are_wide, width_taken};
 use pl_base::{Cells, Fail, List};
 use pl_query::{Queries, Store};
 use pl_querying::pl_calling::{Calling, Start, copies_for, finish, try_rows};
-use pl_querying::pl_engine::{BodyRunner, Calls, Engine, Port, Spot, Stop};
+use pl_querying::pl_engine::{BodyRunner, Calls, Engine, Moment, Port, Spot, Stop};
 use pl_targets::RChange;
 use pl_world::pl_change::copy_row;
 use std::marker::Brand;
@@ -61,7 +60,7 @@ fn change_rows<B: Start, P: Port, R: BodyRunner>(
         room: calls.room,
     };
     let mut calling = Calling::<B, R>::begin(calls, engine, at);
-    let answer = run(&command, &inside, rows.as_slice(), &mut calling);
+    let answer = run(&command, &inside, rows, &mut calling);
     finish(engine, port, at, calling, answer)
 }
 

@@ -8,7 +8,6 @@ mod assigning;
 mod changing;
 mod command;
 mod keeping;
-mod moment;
 mod reading;
 mod resolving;
 mod rows;

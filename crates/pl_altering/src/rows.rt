@@ -81,23 +81,25 @@ pub(crate) fn add_row<B: Start, R: BodyRunner>(
 
 // ---- UPDATE
 
-// The row with these values in these columns, if it is there still.
+// The row with these values in these columns, if it is there still. It is made of the one that was
+// kept.
 fn set_values<B: Start, R: BodyRunner>(
     command: &Command<'_>,
     inside: &Inside<'_, '_>,
     columns: &[usize],
     values: &[Value],
-    entry: &Entry,
+    entry: Entry,
     rows: Rows,
     calling: &mut Calling<'_, B, R>,
 ) -> Result<Rows, Unsettled>
     ensures { ReadsOver command.now (λ x. spec.sets (setting_over command.now inside.now)
-        columns.now (entry_of entry.now) (Some values.now) rows x) result
+        columns.now (entry_of entry) (Some values.now) rows x) result
         calling.old calling.new }
 {
-    if is_still(calling.journal(), command.change.table, entry) {
-        let made = assign(command.alloc, columns, values, entry.row.as_slice())?;
-        return write_row(command, inside, Some(entry.id), made, rows, calling);
+    if is_still(calling.journal(), command.change.table, &entry) {
+        let Entry { id, row } = entry;
+        let made = assign(command.alloc, columns, values, row)?;
+        return write_row(command, inside, Some(id), made, rows, calling);
     }
     Err(Unsettled::Fails(State::TRIGGERED_DATA_CHANGE_VIOLATION))
 }
@@ -108,12 +110,12 @@ fn set_row<B: Start, R: BodyRunner>(
     inside: &Inside<'_, '_>,
     columns: &[usize],
     values: Option<Cells>,
-    entry: &Entry,
+    entry: Entry,
     rows: Rows,
     calling: &mut Calling<'_, B, R>,
 ) -> Result<Rows, Unsettled>
     ensures { ReadsOver command.now (λ x. spec.sets (setting_over command.now inside.now)
-        columns.now (entry_of entry.now) values rows x) result calling.old calling.new }
+        columns.now (entry_of entry) values rows x) result calling.old calling.new }
 {
     match values {
         None => Ok(rows),
@@ -131,20 +133,17 @@ fn set_row<B: Start, R: BodyRunner>(
     }
 }
 
-/// UPDATE of a row.
-pub(crate) fn update_row<'x, B: Start, R: BodyRunner>(
+// The values that SET gives, if WHERE passes over a row that was kept.
+fn read_values<'x, B: Start, R: BodyRunner>(
     command: &Command<'x>,
     inside: &Inside<'_, '_>,
-    columns: &[usize],
     parts: &[RExpr],
     condition: &Option<Boxed<RExpr>>,
     entry: &'x Entry,
-    rows: Rows,
     calling: &mut Calling<'_, B, R>,
-) -> Result<Rows, Unsettled>
-    ensures { ReadsOver command.now (λ x. spec.updates (setting_over command.now inside.now)
-        columns.now parts.now condition.now (entry_of entry.now) rows x) result
-        calling.old calling.new }
+) -> Result<Option<Cells>, Unsettled>
+    ensures { ReadsOver command.now (λ x. spec.read_if (setting_over command.now inside.now)
+        condition.now parts.now entry.now.row x) result calling.old calling.new }
 {
     let frame = [
         Lent {
@@ -155,7 +154,25 @@ pub(crate) fn update_row<'x, B: Start, R: BodyRunner>(
             cells: entry.row.as_slice(),
         },
     ];
-    match read_if(command, inside, condition, parts, &frame, calling) {
+    read_if(command, inside, condition, parts, &frame, calling)
+}
+
+/// UPDATE of a row.
+pub(crate) fn update_row<B: Start, R: BodyRunner>(
+    command: &Command<'_>,
+    inside: &Inside<'_, '_>,
+    columns: &[usize],
+    parts: &[RExpr],
+    condition: &Option<Boxed<RExpr>>,
+    entry: Entry,
+    rows: Rows,
+    calling: &mut Calling<'_, B, R>,
+) -> Result<Rows, Unsettled>
+    ensures { ReadsOver command.now (λ x. spec.updates (setting_over command.now inside.now)
+        columns.now parts.now condition.now (entry_of entry) rows x) result
+        calling.old calling.new }
+{
+    match read_values(&*command, inside, parts, condition, &entry, calling) {
         Ok(values) => set_row(command, inside, columns, values, entry, rows, calling),
         Err(why) => Err(why),
     }

@@ -153,11 +153,11 @@ fn update_each<B: Start, R: BodyRunner>(
     columns: &[usize],
     parts: &[RExpr],
     condition: &Option<Boxed<RExpr>>,
-    kept: &[Entry],
+    kept: Vec<Entry>,
     calling: &mut Calling<'_, B, R>,
 ) -> Result<Rows, Unsettled>
     ensures { ReadsOver command.now (λ x. in_turn (spec.updates (setting_over command.now
-        inside.now) columns.now parts.now condition.now) (entries kept.now) [] x) result
+        inside.now) columns.now parts.now condition.now) (entries kept.items) [] x) result
         calling.old calling.new }
 {
     let mut rows = Rows::new(command.alloc);
@@ -197,11 +197,11 @@ fn delete_each<B: Start, R: BodyRunner>(
 fn run_each<B: Start, R: BodyRunner>(
     command: &Command<'_>,
     inside: &Inside<'_, '_>,
-    kept: &[Entry],
+    kept: Vec<Entry>,
     calling: &mut Calling<'_, B, R>,
 ) -> Result<Rows, Unsettled>
     ensures { ReadsOver command.now (λ x. spec.does (setting_over command.now inside.now)
-        (command.now.variables.now ∷ []) (entries kept.now) command.now.change.now.what x) result
+        (command.now.variables.now ∷ []) (entries kept.items) command.now.change.now.what x) result
         calling.old calling.new }
 {
     match &command.change.what {
@@ -219,7 +219,9 @@ fn run_each<B: Start, R: BodyRunner>(
             kept,
             calling,
         ),
-        RWhat::Delete { condition } => delete_each(command, inside, condition, kept, calling),
+        RWhat::Delete { condition } => {
+            delete_each(command, inside, condition, kept.as_slice(), calling)
+        }
     }
 }
 
@@ -228,11 +230,11 @@ fn run_each<B: Start, R: BodyRunner>(
 pub(crate) fn run<B: Start, R: BodyRunner>(
     command: &Command<'_>,
     inside: &Inside<'_, '_>,
-    kept: &[Entry],
+    kept: Vec<Entry>,
     calling: &mut Calling<'_, B, R>,
 ) -> Result<List<Cells>, Unsettled>
     ensures { ReadsOver command.now (λ x. spec.does (setting_over command.now inside.now)
-        (command.now.variables.now ∷ []) (entries kept.now) command.now.change.now.what x) result
+        (command.now.variables.now ∷ []) (entries kept.items) command.now.change.now.what x) result
         calling.old calling.new }
 {
     match run_each(command, inside, kept, calling) {

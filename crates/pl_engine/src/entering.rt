@@ -1,6 +1,6 @@
 //! Calls that are entered and left.
 
-ghost use Rattle.std.specs.Prelude.{◌≡◌, ◌∷◌, drop, length, OnOk};
+ghost use Rattle.std.specs.Prelude.{◌≡◌, ◌∷◌, drop, length, OnErr, OnOk};
 ghost use Rattle.pl_engine.specs.Engines.{kept, with_call, world};
 ghost use Rattle.pl_world.specs.Calls.{popped};
 
@@ -31,6 +31,8 @@ impl Engine {
             ≡ with_call routine is_command declared arguments (world self.old)) }
         ensures keeps { OnOk result (kept self.new
             ≡ record (kept self.old) { below = (world self.old).frame ∷ (world self.old).below }) }
+        ensures not { OnErr result (world self.new ≡ world self.old) }
+        ensures not_kept { OnErr result (kept self.new ≡ kept self.old) }
     {
         let call = Call {
             routine,

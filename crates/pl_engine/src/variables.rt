@@ -5,7 +5,7 @@ ghost use Rattle.pl_engine.specs.Engines.{kept, world};
 ghost use Rattle.pl_world.specs.Variables as spec;
 
 use crate::engine::Engine;
-use pl_base::{Name, Ty, Value};
+use pl_base::{List, Name, Ty, Value};
 use pl_declared::Static;
 use std::alloc::AllocError;
 
@@ -84,6 +84,16 @@ impl Engine {
         ensures keeps { kept self.new ≡ kept self.old }
     {
         self.frames.set(at, value);
+    }
+
+    /// The variables of the newest call have these values, and what they had is handed out.
+    pub fn exchange_values(&mut self, values: List<Value>) -> List<Value>
+        ensures was { result ≡ (world self.old).frame.values }
+        ensures is { world self.new
+            ≡ spec.with_frame (record (world self.old).frame { values = values }) (world self.old) }
+        ensures keeps { kept self.new ≡ kept self.old }
+    {
+        self.frames.exchange(values)
     }
 
     /// FOUND says so.

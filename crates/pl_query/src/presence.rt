@@ -16,7 +16,7 @@ use crate::along::put_behind;
 use crate::query::only_table;
 use crate::sources::{are_too_many, expression_of};
 use crate::within::at_number;
-use pl_base::Cells;
+use pl_base::{Cells, Value};
 use pl_product::{Bundles, Sole, add_empty, sole_in, with_room};
 use pl_resolved::{RExpr, RQuery};
 use pl_value::{Lent, leaf, truth_in};
@@ -99,8 +99,31 @@ fn stand_before<'a>(alloc: Global, outer: &[Lent<'a>]) -> Result<Vec<Lent<'a>>, 
     Ok(stands)
 }
 
-// Whether the query has a row, over the rows around it. None where that isn't known at once.
-fn known_of<'a, C>(
+// Whether the query has a row, over the two rows around it: those that stand are no list.
+fn known_by_two<'a, C>(
+    alloc: Global,
+    bare: &Bare<'a>,
+    first: &'a [Value],
+    second: &'a [Value],
+) -> Result<Option<bool>, AllocError>
+    ensures { IfOk result (λ known. IfSome known (λ b. (tables : TablesOf) (q : RQuery)
+        → IsBare tables q bare.now → HasRow C tables q (first.now ∷ second.now ∷ []) b)) }
+{
+    let first = Lent { cells: first };
+    let second = Lent { cells: second };
+    let empty = Lent { cells: &[] };
+    match sole_in::<C>(alloc, bare.bundles, bare.condition, &[first, second, empty])? {
+        Sole::Any => Ok(None),
+        Sole::Nothing => Ok(Some(false)),
+        Sole::Row(at) => match bare.bundles.get(at) {
+            [row] => Ok(passes_at_once::<C>(bare, &[first, second, empty, *row])),
+            _ => Ok(None),
+        },
+    }
+}
+
+// The same, over any rows.
+fn known_behind<'a, C>(
     alloc: Global,
     bare: &Bare<'a>,
     outer: &[Lent<'a>],
@@ -119,6 +142,21 @@ fn known_of<'a, C>(
             put_behind(&mut stands, bare.bundles.get(at))?;
             Ok(passes_at_once::<C>(bare, stands.as_slice()))
         }
+    }
+}
+
+// Whether the query has a row, over the rows around it. None where that isn't known at once.
+fn known_of<'a, C>(
+    alloc: Global,
+    bare: &Bare<'a>,
+    outer: &[Lent<'a>],
+) -> Result<Option<bool>, AllocError>
+    ensures { IfOk result (λ known. IfSome known (λ b. (tables : TablesOf) (q : RQuery)
+        → IsBare tables q bare.now → HasRow C tables q (rows_of outer.now) b)) }
+{
+    match outer {
+        [first, second] => known_by_two::<C>(alloc, bare, first.cells, second.cells),
+        _ => known_behind::<C>(alloc, bare, outer),
     }
 }
 

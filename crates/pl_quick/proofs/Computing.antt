@@ -52,13 +52,22 @@ on {A} {B} {first} {o} {old} {mid} k c = record {
   spent = c.spent;
 }
 
+-- the whole and the rest may be written otherwise, over worlds where as many steps are left
+pub alike : {O : Type 0} {whole whole' rest rest' : Ran O} {old old' new new' : World} → whole' ≡ whole → rest ≡ rest' → old'.steps ≡ old.steps → new'.steps ≡ new.steps → Computes whole rest old new → Computes whole' rest' old' new'
+alike {O} {whole} {whole'} {rest} {rest'} {old} {old'} {new} {new'} is same before after c = record {
+  events = c.events;
+  goes_on = is ∙ (c.goes_on ∙ ap (λ (x : Ran O). behind c.events x) same);
+  silent = c.silent;
+  spent = let i = c.spent in let b : old'.steps ≡ old.steps = before in let a : new'.steps ≡ new.steps = after in omega (arith, i, b, a);
+}
+
 -- no step comes back
 pub no_more : {O : Type 0} {whole rest : Ran O} {old new : World} → Computes whole rest old new → new.steps ≤ old.steps
 no_more c = let i = c.spent in omega arith
 
 -- ---- steps
 
-one_step : (at : Spot) (w : World) (n : ℕ) (k : World → Ran Outcome) → w.steps ≡ suc n → Computes (stepped at w k) (k (record w { steps = n })) w (record w { steps = n })
+pub one_step : (at : Spot) (w : World) (n : ℕ) (k : World → Ran Outcome) → w.steps ≡ suc n → Computes (stepped at w k) (k (record w { steps = n })) w (record w { steps = n })
 unfolding stepped
 one_step at w n k is = record {
   events = Stepped (place at w) ∷ [];
@@ -114,6 +123,7 @@ pub all_off : (e : End) (s : Statement) (ss : List Statement) (old new : World) 
 all_off end.Next s ss old new other one = absurd (other refl)
 all_off end.Exit s ss old new other one = λ room le. becomes (all_cons (runner_for do_bodies room) s ss old) (on (on_next (λ w. all (runner_for do_bodies room) ss w)) (one room le))
 all_off end.Continue s ss old new other one = λ room le. becomes (all_cons (runner_for do_bodies room) s ss old) (on (on_next (λ w. all (runner_for do_bodies room) ss w)) (one room le))
+all_off (end.Return k) s ss old new other one = λ room le. becomes (all_cons (runner_for do_bodies room) s ss old) (on (on_next (λ w. all (runner_for do_bodies room) ss w)) (one room le))
 all_off end.Left s ss old new other one = tt
 
 -- ---- IF

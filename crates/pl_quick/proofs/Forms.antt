@@ -1,6 +1,7 @@
 -- What acts do, form by form, and one after another.
-use Rattle.std.proofs.Common.{◌≡◌, ◌≢◌, ◌<◌, ◌+◌, ◌∙◌, ℕ, zero, suc, true, false, List, [], ◌∷◌, Option, None, add-one, ap, arith, drop, drop-cons, get_or, length, refl, rules, subst, sym}
+use Rattle.std.proofs.Common.{◌≡◌, ◌≢◌, ◌<◌, ◌+◌, ◌∙◌, ℕ, zero, suc, true, false, List, [], ◌∷◌, Option, None, Some, add-one, ap, arith, drop, drop-cons, get_or, length, refl, rules, subst, sym}
 use Rattle.std.specs.Prelude.{IfSome}
+use Rattle.pl_base.specs.declared.types.Ty.{Ty}
 use Rattle.pl_bodies.specs.declared.simple.Jump.{Jump}
 use Rattle.pl_bodies.specs.declared.simple.Simple.TheVariants as simple
 use Rattle.pl_bodies.specs.declared.simple.Target.{Target}
@@ -8,9 +9,11 @@ use Rattle.pl_bodies.specs.declared.statement.Branch.{Branch, out-Branch}
 use Rattle.pl_bodies.specs.declared.statement.Otherwise.{Otherwise}
 use Rattle.pl_bodies.specs.declared.statement.Statement.{Statement, out-Statement}
 use Rattle.pl_bodies.specs.declared.statement.StatementKind.{out-StatementKind}
+use Rattle.pl_direct.specs.Known.{value_of}
+use Rattle.pl_direct.specs.declared.known.Known.{Known}
 use Rattle.pl_direct.specs.declared.known.Known.TheVariants.{Bool as Truth}
 use Rattle.pl_direct.specs.pl_scope.declared.resolve.ResolvedExpr.{ResolvedExpr}
-use Rattle.pl_engine.specs.pl_world.Control.{else_of, jumps}
+use Rattle.pl_engine.specs.pl_world.Control.{else_of, jumps, returns}
 use Rattle.pl_engine.specs.pl_world.Errors.{Spot}
 use Rattle.pl_engine.specs.pl_world.Running.{Runner}
 use Rattle.pl_engine.specs.pl_world.Statements.{Layer, form, runner_for, simple_form}
@@ -19,8 +22,8 @@ use Rattle.pl_engine.specs.pl_world.World.{World, ends}
 use Rattle.pl_engine.specs.pl_world.declared.outcome.Outcome.{Outcome}
 use Rattle.pl_engine.specs.pl_world.declared.outcome.Outcome.TheVariants as outcome
 use Rattle.pl_quick.proofs.Computing.{all_off, all_on, at_once, becomes, branch_does, none_of_all, once, others_do, otherwise_does}
-use Rattle.pl_quick.proofs.Values.{null_form, of_if, of_jump, of_simple, tested_is}
-use Rattle.pl_quick.specs.Acts.{ActLayer, AreFor, AreForBranches, IsFor, IsForForm, IsForKind, IsForOne, IsGiven, IsReadIf}
+use Rattle.pl_quick.proofs.Values.{null_form, of_if, of_jump, of_return, of_simple, tested_is}
+use Rattle.pl_quick.specs.Acts.{ActLayer, AreFor, AreForBranches, IsForForm, IsForLayer, IsForOne, IsGiven, IsReadIf, IsReturned}
 use Rattle.pl_quick.specs.Computing.{AllCompute, BranchesCompute, FormComputes, HasValue, OneComputes, OnlyComputed, outcome_of}
 use Rattle.pl_quick.specs.declared.act.Act.{Act, out-Act, the_lemmas}
 use Rattle.pl_quick.specs.declared.act.Act.TheOpen as l
@@ -54,14 +57,26 @@ assign_out a = first_of (search (rules, the_lemmas), grind (arith, the_lemmas))
 pub jump_out : (j : Jump) (x : Option ResolvedExpr) → out-Act (act.Jump j x) ≡ jump_layer j x
 jump_out j x = first_of (search (rules, the_lemmas), grind (arith, the_lemmas))
 
+abbrev pub call_layer : Assign → Ty → List Act → ActLayer
+call_layer a ty acts = l.Call a ty acts
+
+abbrev pub return_layer : ResolvedExpr → ActLayer
+return_layer x = l.Return x
+
+pub call_out : (a : Assign) (ty : Ty) (acts : List Act) → out-Act (act.Call a ty acts) ≡ call_layer a ty acts
+call_out a ty acts = first_of (search (rules, the_lemmas), grind (arith, the_lemmas))
+
+pub return_out : (x : ResolvedExpr) → out-Act (act.Return x) ≡ return_layer x
+return_out x = first_of (search (rules, the_lemmas), grind (arith, the_lemmas))
+
 pub choose_out : (arms : List Arm) (acts : List Act) → out-Act (act.Choose arms acts) ≡ choose_layer arms acts
 choose_out arms acts = first_of (search (rules, the_lemmas), grind (arith, the_lemmas))
 
 -- ---- forms
 
 module _ (n : ℕ) (k : Layer) (w : World) where
-  opened : (a : Act) (y : ActLayer) → out-Act a ≡ y → IsForForm n a k w → IsForKind w.database.objects w.frame.static (IsFor w.database.objects w.frame.static n) y k
-  opened a y is stands = subst (λ (y : ActLayer). IsForKind w.database.objects w.frame.static (IsFor w.database.objects w.frame.static n) y k) is stands
+  pub opened : (a : Act) (y : ActLayer) → out-Act a ≡ y → IsForForm n a k w → IsForLayer n y k w
+  opened a y is stands = subst (λ (y : ActLayer). IsForLayer n y k w) is stands
 
   pub nothing_does : (a : Act) → a ≡ act.Nothing → IsForForm n a k w → FormComputes k outcome.Next w w
   nothing_does a is stands room at le =
@@ -82,6 +97,13 @@ module _ (n : ℕ) (k : Layer) (w : World) where
       let r = runner_for do_bodies room in
       let there = opened a (jump_layer j x) (ap (λ (a : Act). out-Act a) is ∙ jump_out j x) stands in
       at_once (ap (λ (k : Layer). form r at k w) there.1 ∙ (of_jump r at w j there.0 ∙ leaves r at there.0 (subst (λ (x : Option ResolvedExpr). IsReadIf x there.0 w) (sym same) there.2))) refl
+
+  pub return_does : (a : Act) (x x' : ResolvedExpr) (o : Outcome) → a ≡ act.Return x → x' ≡ x
+      → ((r : Runner) (at : Spot) (e : Expr) → IsReturned x' e w → returns r at (Some e) w ≡ ends o w) → IsForForm n a k w → FormComputes k o w w
+  return_does a x x' o is same gives stands room at le =
+      let r = runner_for do_bodies room in
+      let there = opened a (return_layer x) (ap (λ (a : Act). out-Act a) is ∙ return_out x) stands in
+      at_once (ap (λ (k : Layer). form r at k w) there.1 ∙ (of_return r at w there.0 ∙ gives r at there.0 (subst (λ (x : ResolvedExpr). IsReturned x there.0 w) (sym same) there.2))) refl
 
   pub choice_does : (a : Act) (arms arms' : List Arm) (acts acts' : List Act) (o : Outcome) (new : World) → a ≡ act.Choose arms acts → arms' ≡ arms → acts' ≡ acts
       → ((n : ℕ) (bs : List Branch) (e : Option Otherwise) → AreForBranches n arms' bs w → AreFor n acts' (else_of e) w → BranchesCompute bs e o w new) → IsForForm n a k w → FormComputes k o w new
@@ -141,6 +163,11 @@ continued : (n : ℕ) (a : Act) (rest : List Act) (ss : List Statement) (old new
 continued n a rest [] old new one stand = absurd stand
 continued n a rest (s ∷ ss) old new one stand = all_off end.Continue s ss old new (λ same. let no : end.Continue ≡ end.Next = same in cc) (one n s stand.0)
 
+returned : (n : ℕ) (a : Act) (rest : List Act) (ss : List Statement) (old new : World) (k : Known) → ((n : ℕ) (s : Statement) → IsForOne n a s old → OneComputes s (outcome.Return (value_of k)) old new) → AreFor n (a ∷ rest) ss old
+    → AllCompute ss (outcome.Return (value_of k)) old new
+returned n a rest [] old new k one stand = absurd stand
+returned n a rest (s ∷ ss) old new k one stand = all_off (end.Return k) s ss old new (λ same. let no : end.Return k ≡ end.Next = same in cc) (one n s stand.0)
+
 -- the first of those that are left ended otherwise
 pub acts_off : (e : End) (all left : List Act) (a : Act) (rest : List Act) (first old new : World) → e ≢ end.Next → AllBy all left first old → left ≡ a ∷ rest → IfSome (outcome_of e) (λ o. (n : ℕ) (s : Statement) → IsForOne n a s old → OneComputes s o old new)
     → IfSome (outcome_of e) (λ o. (n : ℕ) (ss : List Statement) → AreFor n all ss first → AllCompute ss o first new)
@@ -149,6 +176,8 @@ acts_off end.Exit all left a rest first old new other so_far is one =
     λ n. so_far n (outcome.Exit None) new (λ ss stand. exited n a rest ss old new one (subst (λ (xs : List Act). AreFor n xs ss old) is stand))
 acts_off end.Continue all left a rest first old new other so_far is one =
     λ n. so_far n (outcome.Continue None) new (λ ss stand. continued n a rest ss old new one (subst (λ (xs : List Act). AreFor n xs ss old) is stand))
+acts_off (end.Return k) all left a rest first old new other so_far is one =
+    λ n. so_far n (outcome.Return (value_of k)) new (λ ss stand. returned n a rest ss old new k one (subst (λ (xs : List Act). AreFor n xs ss old) is stand))
 acts_off end.Left all left a rest first old new other so_far is one = tt
 
 -- ---- IF

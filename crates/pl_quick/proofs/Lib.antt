@@ -3,5 +3,8 @@ mod Values
 mod Olds
 mod Forms
 mod Turns
+mod Called
+mod Entering
+mod Arguments
 mod Plans
 mod Junctions

@@ -1,9 +1,11 @@
 -- Acts that are made, one after another, and what they stand for.
-use Rattle.std.proofs.Common.{◌≡◌, ◌∙◌, ℕ, suc, List, [], ◌∷◌, ◌++◌, Option, None, ap, append_assoc, append-nil, arith, refl, rules, subst, sym}
+use Rattle.std.proofs.Common.{◌≡◌, ◌∙◌, ℕ, suc, List, [], ◌∷◌, ◌++◌, Option, None, Some, ap, append_assoc, append-nil, arith, refl, rules, subst, sym}
 use Rattle.pl_bodies.specs.declared.simple.Jump.{Jump}
 use Rattle.pl_bodies.specs.declared.simple.Simple.{Simple}
 use Rattle.pl_bodies.specs.declared.simple.Simple.TheVariants as simple
 use Rattle.pl_bodies.specs.declared.simple.Target.{Target}
+use Rattle.pl_bodies.specs.declared.statement.Block.{out-Block}
+use Rattle.pl_bodies.specs.declared.statement.Body.{Body}
 use Rattle.pl_bodies.specs.declared.statement.Branch.{Branch}
 use Rattle.pl_bodies.specs.declared.statement.Otherwise.{Otherwise}
 use Rattle.pl_bodies.specs.declared.statement.Statement.{Statement, out-Statement}
@@ -14,12 +16,13 @@ use Rattle.pl_direct.specs.pl_scope.declared.resolve.ResolvedExpr.{ResolvedExpr}
 use Rattle.pl_engine.specs.pl_world.Control.{else_of}
 use Rattle.pl_engine.specs.pl_world.Statements.{Layer}
 use Rattle.pl_engine.specs.pl_world.World.{World}
-use Rattle.pl_quick.proofs.Forms.{assign_layer, assign_out, choose_layer, choose_out, jump_layer, jump_out, nothing_layer, nothing_out}
-use Rattle.pl_quick.specs.Acts.{ActLayer, AreFor, AreForBranches, IsFor, IsForForm, IsForKind, IsForOne, IsGiven, IsReadIf, Pairwise}
+use Rattle.pl_quick.proofs.Forms.{assign_layer, assign_out, call_layer, call_out, choose_layer, choose_out, jump_layer, jump_out, nothing_layer, nothing_out, return_layer, return_out}
+use Rattle.pl_quick.specs.Acts.{ActLayer, AreFor, AreForBranches, AreWithin, CanBeCalled, IsForForm, IsForLayer, IsForOne, IsGiven, IsReadIf, IsReturned, Pairwise}
 use Rattle.pl_quick.specs.declared.act.Act.{Act, out-Act}
 use Rattle.pl_quick.specs.declared.act.Act.TheVariants as act
 use Rattle.pl_quick.specs.declared.act.Arm.{Arm}
 use Rattle.pl_quick.specs.declared.act.Assign.{Assign}
+use Rattle.pl_quick.specs.declared.callees.Callee.{Callee}
 use Rattle.pl_tree.specs.declared.tree.Expr.{Expr}
 
 -- ---- lists
@@ -47,8 +50,8 @@ abbrev kind_of : Simple → Layer
 kind_of s = kind.Simple s
 
 module _ (n : ℕ) (w : World) where
-  closed : (a : Act) (y : ActLayer) (k : Layer) → out-Act a ≡ y → IsForKind w.database.objects w.frame.static (IsFor w.database.objects w.frame.static n) y k → IsForForm n a k w
-  closed a y k is stands = subst (λ (y : ActLayer). IsForKind w.database.objects w.frame.static (IsFor w.database.objects w.frame.static n) y k) (sym is) stands
+  closed : (a : Act) (y : ActLayer) (k : Layer) → out-Act a ≡ y → IsForLayer n y k w → IsForForm n a k w
+  closed a y k is stands = subst (λ (y : ActLayer). IsForLayer n y k w) (sym is) stands
 
   pub null_for : (s : Simple) → s ≡ simple.Null → IsForForm n act.Nothing (kind.Simple s) w
   null_for s is = closed act.Nothing nothing_layer (kind.Simple s) nothing_out (ap kind_of is)
@@ -58,6 +61,34 @@ module _ (n : ℕ) (w : World) where
 
   pub jump_for : (j : Jump) (x : Option ResolvedExpr) (e : Option Expr) → IsReadIf x e w → IsForForm n (act.Jump j x) (kind.Simple (simple.Jump j None e)) w
   jump_for j x e read = closed (act.Jump j x) (jump_layer j x) (kind.Simple (simple.Jump j None e)) (jump_out j x) (e, refl, read)
+
+  pub return_for : (x : ResolvedExpr) (e : Expr) → IsReturned x e w → IsForForm n (act.Return x) (kind.Simple (simple.Return (Some e))) w
+  return_for x e gives = closed (act.Return x) (return_layer x) (kind.Simple (simple.Return (Some e))) (return_out x) (e, refl, gives)
+
+  -- the statements are those of the function that is called
+  pub call_for : (a : Assign) (c : Callee) (acts : List Act) (t : Target) (e : Expr) → IsGiven a t e w → CanBeCalled c a.value w → AreWithin n acts c w → IsForForm n (act.Call a c.ty acts) (kind.Simple (simple.Assign t e)) w
+  call_for a c acts t e given can within =
+      closed (act.Call a c.ty acts) (call_layer a c.ty acts) (kind.Simple (simple.Assign t e)) (call_out a c.ty acts) (
+        t,
+        e,
+        c.declared,
+        (out-Block c.body.block).statements,
+        refl,
+        given,
+        record {
+          name = can.name;
+          arguments = can.arguments;
+          is_call = can.is_call;
+          routine = can.routine;
+          found = can.found;
+          plain = can.callee.plain;
+          room = can.room;
+          gives = can.callee.gives;
+          names = can.callee.names;
+          statements = ap (λ (b : Body). (out-Block b.block).statements) can.callee.body;
+        },
+        within,
+      )
 
   pub choice_for : (arms : List Arm) (acts : List Act) (bs : List Branch) (o : Option Otherwise) → AreForBranches n arms bs w → AreFor n acts (else_of o) w → IsForForm n (act.Choose arms acts) (kind.If bs o) w
   choice_for arms acts bs o some others = closed (act.Choose arms acts) (choose_layer arms acts) (kind.If bs o) (choose_out arms acts) (bs, o, refl, some, others)
@@ -98,3 +129,8 @@ pub assign_of : (n : ℕ) (w : World) (a : Act) (t t' : Target) (e e' : Expr) (s
 assign_of n w a t t' e e' s is same-t same-e stands =
     subst (λ (s : Simple). IsForForm n a (kind.Simple s) w) (sym is)
     (subst (λ (t : Target). IsForForm n a (kind.Simple (simple.Assign t e)) w) same-t (subst (λ (e : Expr). IsForForm n a (kind.Simple (simple.Assign t' e)) w) same-e stands))
+
+-- RETURN with a value
+pub return_of : (n : ℕ) (w : World) (a : Act) (e e' : Expr) (s : Simple) → s ≡ simple.Return (Some e) → e' ≡ e → IsForForm n a (kind.Simple (simple.Return (Some e'))) w → IsForForm n a (kind.Simple s) w
+return_of n w a e e' s is same stands =
+    subst (λ (s : Simple). IsForForm n a (kind.Simple s) w) (sym is) (subst (λ (e : Expr). IsForForm n a (kind.Simple (simple.Return (Some e))) w) same stands)

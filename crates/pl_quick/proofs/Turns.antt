@@ -15,16 +15,19 @@ use Rattle.pl_engine.specs.pl_world.declared.outcome.Outcome.TheVariants as outc
 use Rattle.pl_names.specs.Names.{Name}
 use Rattle.pl_quick.proofs.Computing.{at_once, becomes, turned_back, turned_on, turned_out}
 use Rattle.pl_quick.proofs.Values.{tested_is}
-use Rattle.pl_quick.specs.Acts.{AreFor, IsReadIf}
-use Rattle.pl_quick.specs.Computing.{AllCompute, HasValue, IsAsked, TurnedAs, outcome_of, round}
+use Rattle.pl_quick.specs.Acts.{AreFor, IsReadIf, RoundFits}
+use Rattle.pl_quick.specs.Computing.{AllCompute, HasValue, IsAsked, OnlyComputed, TurnedAs, outcome_of, round}
+use Rattle.pl_quick.specs.Scratch.{in_world}
 use Rattle.pl_quick.specs.declared.act.Act.{Act}
 use Rattle.pl_quick.specs.declared.acting.End.{End}
 use Rattle.pl_quick.specs.declared.acting.End.TheVariants as end
+use Rattle.pl_quick.specs.declared.scratch.Scratch.{Scratch}
+use Rattle.pl_quick.specs.declared.turning.Round.{Round}
 use Rattle.pl_quick.specs.declared.turning.Turned.{Turned}
 use Rattle.pl_quick.specs.declared.turning.Turned.TheVariants as turns
 use Rattle.pl_tree.specs.declared.tree.Expr.{Expr}
 
-module _ (acts : List Act) {old mid : World} (taken : old.steps ≡ suc mid.steps) (is : mid ≡ record old { steps = mid.steps }) (new : World) where
+module _ (acts : List Act) (old mid : World) (taken : old.steps ≡ suc mid.steps) (is : mid ≡ record old { steps = mid.steps }) (new : World) where
   -- how they ended behind the step, if all of them were done
   abbrev pub Ended : End → Type 0
   Ended e = IfSome (outcome_of e) (λ o. (n : ℕ) (ss : List Statement) → AreFor n acts ss mid → AllCompute ss o mid new)
@@ -79,3 +82,21 @@ asked_none x w none = subst (λ (x : Option ResolvedExpr). IsAsked x true w) (sy
 
 pub asked_some : (x : Option ResolvedExpr) (y : ResolvedExpr) (b : Bool) (w : World) → x ≡ Some y → HasValue y (Truth b) w → IsAsked x b w
 asked_some x y b w some has = subst (λ (x : Option ResolvedExpr). IsAsked x b w) (sym some) has
+
+-- ---- over an engine
+
+module _ (w0 w1 w3 : World) (s1 s2 : Scratch) (before : in_world s1 w1 ≡ w0) (after : w3 ≡ in_world s2 w1) where
+  pub only_between : OnlyComputed w0 w3
+  only_between = subst (λ (w : World). OnlyComputed w w3) before (subst (λ (w : World). OnlyComputed (in_world s1 w1) w) (sym after) refl)
+
+pub over_engine : (t : Turned) (condition : Option Expr) (body : List Statement) (w0 w1 w3 : World) (s1 s2 : Scratch) → in_world s1 w1 ≡ w0 → w3 ≡ in_world s2 w1 → TurnedAs t condition body (in_world s1 w1) (in_world s2 w1) → TurnedAs t condition body w0 w3
+over_engine t condition body w0 w1 w3 s1 s2 before after turned =
+    subst (λ (w : World). TurnedAs t condition body w w3) before (subst (λ (w : World). TurnedAs t condition body (in_world s1 w1) w) (sym after) turned)
+
+-- neither objects nor names are other
+pub fits_within : (r : Round) (condition : Option Expr) (body : List Statement) (w0 w1 : World) (s1 : Scratch) → in_world s1 w1 ≡ w0 → RoundFits r condition body w0 → RoundFits r condition body w1
+fits_within r condition body w0 w1 s1 before fits = subst (λ (w : World). RoundFits r condition body w) (sym before) fits
+
+-- the engine stands for the same world
+pub same_only : (old new : World) → new ≡ old → OnlyComputed old new
+same_only old new is = subst (λ (w : World). OnlyComputed old w) (sym is) refl

@@ -2,6 +2,7 @@
 use Rattle.std.proofs.Common.{◌≡◌, ◌∙◌, Bool, true, false, List, Option, Some, None, Ok, ap, if◌then◌else◌, not, refl, subst, sym}
 use Rattle.std.proofs.lemmas.Bool.{cond-true}
 use Rattle.std.specs.Prelude.{IfSome, slice_get, unwrap_or}
+use Rattle.pl_base.specs.declared.types.Ty.{Ty}
 use Rattle.pl_base.specs.declared.value.Value.{Value}
 use Rattle.pl_base.specs.declared.value.Value.TheVariants as value
 use Rattle.pl_bodies.specs.declared.simple.Jump.{Jump}
@@ -25,11 +26,11 @@ use Rattle.pl_direct.specs.pl_scope.declared.resolve.ResolvedExpr.{ResolvedExpr}
 use Rattle.pl_engine.proofs.Joins.{behind_none}
 use Rattle.pl_engine.specs.pl_world.Assigning.{assigned, kept_if, put, takes}
 use Rattle.pl_engine.specs.pl_world.Calls.{Within, calls}
-use Rattle.pl_engine.specs.pl_world.Control.{branches, jumped, jumps, tested}
+use Rattle.pl_engine.specs.pl_world.Control.{branches, jumped, jumps, returns, tested}
 use Rattle.pl_engine.specs.pl_world.Conversions.{as_truth, as_type, converted, settled}
 use Rattle.pl_engine.specs.pl_world.Errors.{Spot, resolved, resolves}
 use Rattle.pl_engine.specs.pl_world.Expressions.{begun, evaluated, inner, read, reads}
-use Rattle.pl_engine.specs.pl_world.Resolving.{Placing, Variable, aiming, placing, reading, target_means, variable_at}
+use Rattle.pl_engine.specs.pl_world.Resolving.{Placing, Variable, aiming, giving, placing, reading, result_of, target_means, variable_at}
 use Rattle.pl_engine.specs.pl_world.Running.{Runner}
 use Rattle.pl_engine.specs.pl_world.Statements.{form, simple_form}
 use Rattle.pl_engine.specs.pl_world.Variables.{with_value}
@@ -52,6 +53,28 @@ resolved_ok : {A : Type 0} (m : Resolved A) (at : Spot) (w : World) (k : A → R
 unfolding resolves
 resolved_ok {A} m at w k x is = ap (λ (m : Resolved A). resolved m at w k) is
 
+-- ---- variables that are given values
+
+pub converts : (ty : Ty) (k : Known) (v : Value) → Fits k ty v → converted ty (value_of k) ≡ Ok v
+converts ty k v fits = cond-true (is_assignable (value_of k) ty) (cast_to (value_of k) ty) _ fits.is_taken ∙ fits.is_value
+
+module _ (at : Spot) (w : World) where
+  kept : (b : Bool) (next : World) → b ≡ true → kept_if b next at w ≡ ends outcome.Next next
+  kept b next is = ap (λ (b : Bool). kept_if b next at w) is
+
+  taken : (is_required : Bool) (v : Value) → is_null v ≡ false → takes is_required v ≡ true
+  taken true v is = ap (λ (b : Bool). not b) is
+  taken false v is = refl
+
+  typed : (to : Variable) (v x : Value) → converted to.ty v ≡ Ok x → put to v at w ≡ kept_if (takes to.is_required x) (with_value to.at x w) at w
+  unfolding put as_type
+  typed to v x is = ap (λ (a : Answer). settled a at w (λ v w. kept_if (takes to.is_required v) (with_value to.at v w) at w)) is
+
+  pub puts_it : (to : Variable) (k : Known) (v : Value) → Fits k to.ty v → put to (value_of k) at w ≡ ends outcome.Next (with_value to.at v w)
+  puts_it to k v fits = typed to (value_of k) v (converts to.ty k v fits) ∙ kept (takes to.is_required v) (with_value to.at v w) (taken to.is_required v fits.not_null)
+
+-- ---- what is evaluated
+
 module _ (r : Runner) (at : Spot) (w : World) where
   evaluated_is : (x : ResolvedExpr) (k : Known) (go : Value → World → Ran Outcome) → HasValue x k w → evaluated r at x w go ≡ go (value_of k) w
   unfolding evaluated reads
@@ -73,17 +96,6 @@ module _ (r : Runner) (at : Spot) (w : World) where
 
   -- ---- assignment
 
-  kept : (b : Bool) (next : World) → b ≡ true → kept_if b next at w ≡ ends outcome.Next next
-  kept b next is = ap (λ (b : Bool). kept_if b next at w) is
-
-  taken : (is_required : Bool) (v : Value) → is_null v ≡ false → takes is_required v ≡ true
-  taken true v is = ap (λ (b : Bool). not b) is
-  taken false v is = refl
-
-  typed : (to : Variable) (v x : Value) → converted to.ty v ≡ Ok x → put to v at w ≡ kept_if (takes to.is_required x) (with_value to.at x w) at w
-  unfolding put as_type
-  typed to v x is = ap (λ (a : Answer). settled a at w (λ v w. kept_if (takes to.is_required v) (with_value to.at v w) at w)) is
-
   placed : (t : Target) (e : Expr) (to : Variable) (x : ResolvedExpr) → aiming t w.database.objects w.frame.static ≡ Ok to → reading e w.database.objects w.frame.static ≡ Ok x
       → placing t e w.database.objects w.frame.static ≡ Ok (record { to = to; value = x })
   unfolding placing
@@ -99,15 +111,17 @@ module _ (r : Runner) (at : Spot) (w : World) where
   unfolding simple_form
   assign_form t e = refl
 
-  pub assigns : (t : Target) (e : Expr) (to : Variable) (x : ResolvedExpr) (k : Known) (v : Value) → aiming t w.database.objects w.frame.static ≡ Ok to → reading e w.database.objects w.frame.static ≡ Ok x → HasValue x k w → Fits k to.ty v
-      → simple_form r at (simple.Assign t e) w ≡ ends outcome.Next (with_value to.at v w)
-  assigns t e to x k v aims reads has fits =
+  -- an assignment evaluates its value, and puts it into the variable
+  pub assigned_by : (t : Target) (e : Expr) (to : Variable) (x : ResolvedExpr) → aiming t w.database.objects w.frame.static ≡ Ok to → reading e w.database.objects w.frame.static ≡ Ok x
+      → simple_form r at (simple.Assign t e) w ≡ evaluated r at x w (λ v w. put to v at w)
+  assigned_by t e to x aims reads =
       assign_form t e
       ∙ (resolved_ok (placing t e w.database.objects w.frame.static) at w (λ p. assigned r at p w) (record { to = to; value = x }) (placed t e to x aims reads)
-      ∙ (assigned_is (record { to = to; value = x })
-      ∙ (evaluated_is x k (λ v w. put to v at w) has
-      ∙ (typed to (value_of k) v (cond-true (is_assignable (value_of k) to.ty) (cast_to (value_of k) to.ty) _ fits.is_taken ∙ fits.is_value)
-      ∙ kept (takes to.is_required v) (with_value to.at v w) (taken to.is_required v fits.not_null)))))
+      ∙ assigned_is (record { to = to; value = x }))
+
+  pub assigns : (t : Target) (e : Expr) (to : Variable) (x : ResolvedExpr) (k : Known) (o : Outcome) (next : World) → aiming t w.database.objects w.frame.static ≡ Ok to → reading e w.database.objects w.frame.static ≡ Ok x → HasValue x k w
+      → put to (value_of k) at w ≡ ends o next → simple_form r at (simple.Assign t e) w ≡ ends o next
+  assigns t e to x k o next aims reads has puts = assigned_by t e to x aims reads ∙ (evaluated_is x k (λ v w. put to v at w) has ∙ puts)
 
   -- ---- EXIT and CONTINUE
 
@@ -124,6 +138,22 @@ module _ (r : Runner) (at : Spot) (w : World) where
 
   pub jumps_not : (j : Jump) (e : Expr) (x : ResolvedExpr) → reading e w.database.objects w.frame.static ≡ Ok x → HasValue x (Truth false) w → jumps r at j None (Some e) w ≡ ends outcome.Next w
   jumps_not j e x reads has = jumps_when j e ∙ tested_is e x false (λ is w. if is then ends (jumped j None) w else ends outcome.Next w) reads has
+
+  -- ---- RETURN
+
+  returns_one : (e : Expr) → returns r at (Some e) w ≡ resolved (giving e w.database.objects w.frame.static) at w (λ x. evaluated r at x w (λ v w. ends (outcome.Return v) w))
+  unfolding returns
+  returns_one e = refl
+
+  pub returns_it : (e : Expr) (x : ResolvedExpr) (k : Known) → giving e w.database.objects w.frame.static ≡ Ok x → HasValue x k w → returns r at (Some e) w ≡ ends (outcome.Return (value_of k)) w
+  returns_it e x k gives has =
+      returns_one e
+      ∙ (resolved_ok (giving e w.database.objects w.frame.static) at w (λ x. evaluated r at x w (λ v w. ends (outcome.Return v) w)) x gives
+      ∙ evaluated_is x k (λ v w. ends (outcome.Return v) w) has)
+
+  pub of_return : (e : Expr) → form r at (kind.Simple (simple.Return (Some e))) w ≡ returns r at (Some e) w
+  unfolding form simple_form
+  of_return e = refl
 
   -- ---- forms
 
@@ -170,6 +200,15 @@ when_false j x w has r at (Some e) read = jumps_not r at w j e x read has
 
 pub leaves_not : (j : Jump) (x : Option ResolvedExpr) (y : ResolvedExpr) (w : World) → x ≡ Some y → HasValue y (Truth false) w → Leaves j x w outcome.Next
 leaves_not j x y w some has = subst (λ (x : Option ResolvedExpr). Leaves j x w outcome.Next) (sym some) (when_false j y w has)
+
+-- ---- what is returned
+
+-- where a value is due
+pub returned_by : (e : Expr) (x : ResolvedExpr) (ty : Ty) (w : World) → reading e w.database.objects w.frame.static ≡ Ok x → w.frame.static.result ≡ Some ty → giving e w.database.objects w.frame.static ≡ Ok x
+unfolding giving
+returned_by e x ty w reads due =
+    ap (λ (m : Resolved ResolvedExpr). m >>= (λ x. result_of w.frame.static.result >>= (λ t. Ok x))) reads
+    ∙ ap (λ (t : Option Ty). result_of t >>= (λ t. Ok x)) due
 
 -- ---- targets
 

@@ -27,6 +27,7 @@ use Rattle.pl_quick.specs.declared.acting.End.TheVariants as end
 use Rattle.pl_quick.specs.declared.turning.Turned.{Turned}
 use Rattle.pl_quick.specs.declared.turning.Turned.TheVariants as turned
 use Rattle.pl_tree.specs.declared.tree.Expr.{Expr}
+use Rattle.pl_value.specs.Frames.{Row}
 
 -- by steps alone the whole leads to what rest goes on with, and to the new world
 pub record Computes {O : Type 0} (whole rest : Ran O) (old new : World) : Type 0 where
@@ -68,10 +69,14 @@ TurnedAs turned.Left condition body old new = new ≡ old
 
 -- ---- values
 
--- the resolved expression has this value over the variables of the newest call, whatever makes
--- calls and runs queries
+-- the resolved expression has this value over a row of variables, whatever makes calls and runs
+-- queries
+abbrev pub IsValue : ResolvedExpr → Known → Row → Type 0
+IsValue x k row = Valued Within x.typed.tree row (value_of k)
+
+-- over the variables of the newest call
 abbrev pub HasValue : ResolvedExpr → Known → World → Type 0
-HasValue x k w = Valued Within x.typed.tree (row_of w.frame) (value_of k)
+HasValue x k w = IsValue x k (row_of w.frame)
 
 -- a condition that was resolved is true or not; without one there is a turn
 abbrev pub IsAsked : Option ResolvedExpr → Bool → World → Type 0
@@ -85,6 +90,7 @@ abbrev pub outcome_of : End → Option Outcome
 outcome_of end.Next = Some outcome.Next
 outcome_of end.Exit = Some (jumped jump.Exit None)
 outcome_of end.Continue = Some (jumped jump.Continue None)
+outcome_of (end.Return k) = Some (outcome.Return (value_of k))
 outcome_of end.Left = None
 
 -- each of these wherever there is room for the steps that are left

@@ -25,6 +25,17 @@ pub(crate) enum Act {
         /// ELSE; empty where there is none.
         otherwise: List<Act>,
     },
+    /// `target := routine(..)`, where the routine's statements only compute too.
+    Call {
+        /// Where the value goes, and the call.
+        assign: Assign,
+        /// The type of the result.
+        ty: Ty,
+        /// The statements.
+        acts: List<Act>,
+    },
+    /// RETURN with a value.
+    Return(Shared<ResolvedExpr>),
 }
 
 /// IF or ELSIF, and THEN.

@@ -1,15 +1,16 @@
 //! What statements that only compute stand for, with their names resolved.
 
-ghost use Rattle.std.specs.Prelude.{◌≡◌, ℕ, IfSome, None};
+ghost use Rattle.std.specs.Prelude.{◌≡◌, ℕ, IfSome, None, Some};
 ghost use Rattle.std.specs.Option.{option_copied};
 ghost use Rattle.pl_engine.specs.Engines.{kept, world};
 ghost use Rattle.pl_bodies.specs.declared.statement.StatementKind.TheOpen as kind;
 ghost use Rattle.pl_bodies.specs.declared.simple.Simple.TheVariants as simple;
 ghost use Rattle.pl_quick.specs.Acts.{AreFor, AreForBranches, IsForForm, IsForOne, IsGiven};
 ghost use Rattle.pl_engine.specs.pl_world.Control.{else_of};
-ghost use Rattle.pl_quick.specs.Acts.{IsForArm, IsPlace, IsRead, IsReadIf};
+ghost use Rattle.pl_quick.specs.Acts.{AreWithin, IsForArm, IsPlace, IsRead, IsReadIf};
 
 use crate::act::{Act, Arm, Assign};
+use crate::callees::{Callee, callee_if};
 use pl_base::{Boxed, List, Shared, Ty};
 use pl_bodies::{Branch, Jump, Otherwise, Simple, Statement, StatementKind, Target};
 use pl_direct::direct_variable;
@@ -17,7 +18,7 @@ use pl_direct::pl_scope::ResolvedExpr;
 use pl_engine::{Engine, Spot};
 use pl_tree::Expr;
 
-/// How deep statements may stand in statements.
+/// How deep statements may stand in statements and in routines that are called.
 pub(crate) const DEPTH: usize = 16;
 
 // ---- names
@@ -104,16 +105,6 @@ fn assigning(engine: &mut Engine, at: Spot, target: &Target, e: &Expr) -> Option
     })
 }
 
-fn assign_for(engine: &mut Engine, at: Spot, target: &Target, e: &Expr) -> Option<Act>
-    ensures act { IfSome result (λ act. (n : ℕ) → IsForForm n act
-        (kind.Simple (simple.Assign target.now e.now)) (world engine.old)) }
-    ensures is { world engine.new ≡ world engine.old }
-    ensures keeps { kept engine.new ≡ kept engine.old }
-{
-    let assign = assigning(engine, at, target, e)?;
-    Some(Act::Assign(assign))
-}
-
 fn jump_for(
     engine: &mut Engine,
     at: Spot,
@@ -129,39 +120,122 @@ fn jump_for(
     Some(Act::Jump { jump, condition })
 }
 
-fn simple_act(engine: &mut Engine, at: Spot, s: &Simple) -> Option<Act>
-    ensures act { IfSome result (λ act. (n : ℕ) → IsForForm n act (kind.Simple s.now)
+// RETURN, where a value is due.
+fn return_for(engine: &mut Engine, at: Spot, e: &Expr) -> Option<Act>
+    ensures act { IfSome result (λ act. (n : ℕ) → IsForForm n act
+        (kind.Simple (simple.Return (Some e.now))) (world engine.old)) }
+    ensures is { world engine.new ≡ world engine.old }
+    ensures keeps { kept engine.new ≡ kept engine.old }
+{
+    let Some(_ty) = engine.declared().result() else {
+        return None;
+    };
+    let value = read(engine, at, e)?;
+    Some(Act::Return(value))
+}
+
+// ---- all of them
+
+// Of the routine that is called: no call in it is planned.
+#[cycle(making)]
+fn acts_within(engine: &mut Engine, callee: Callee, depth: usize) -> Option<List<Act>>
+    ensures acts { IfSome result (λ acts. AreWithin depth acts callee (world engine.old)) }
+    ensures is { world engine.new ≡ world engine.old }
+    ensures keeps { kept engine.new ≡ kept engine.old }
+{
+    let Callee {
+        routine,
+        declared,
+        body,
+        ..
+    } = callee;
+    let none = List::new(engine.alloc());
+    let Ok(()) = engine.enter(routine, false, declared, none) else {
+        return None;
+    };
+    let acts = acts_for(engine, body.get().block.statements.as_slice(), depth, false);
+    engine.leave();
+    acts
+}
+
+#[cycle(making)]
+fn assign_for(
+    engine: &mut Engine,
+    at: Spot,
+    target: &Target,
+    e: &Expr,
+    depth: usize,
+    may_call: bool,
+) -> Option<Act>
+    ensures act { IfSome result (λ act. IsForForm depth act
+        (kind.Simple (simple.Assign target.now e.now)) (world engine.old)) }
+    ensures is { world engine.new ≡ world engine.old }
+    ensures keeps { kept engine.new ≡ kept engine.old }
+{
+    let assign = assigning(engine, at, target, e)?;
+    match callee_if(may_call, &*engine, &assign.value) {
+        Some(callee) => {
+            let ty = callee.ty;
+            let acts = acts_within(engine, callee, depth)?;
+            Some(Act::Call { assign, ty, acts })
+        }
+        None => Some(Act::Assign(assign)),
+    }
+}
+
+#[cycle(making)]
+fn simple_act(
+    engine: &mut Engine,
+    at: Spot,
+    s: &Simple,
+    depth: usize,
+    may_call: bool,
+) -> Option<Act>
+    ensures act { IfSome result (λ act. IsForForm depth act (kind.Simple s.now)
         (world engine.old)) }
     ensures is { world engine.new ≡ world engine.old }
     ensures keeps { kept engine.new ≡ kept engine.old }
 {
     match s {
         Simple::Null => Some(Act::Nothing),
-        Simple::Assign { target, value } => assign_for(engine, at, target, value),
+        Simple::Assign { target, value } => {
+            assign_for(engine, at, target, value, depth, may_call)
+        }
         Simple::Jump {
             jump,
             label: None,
             condition,
         } => jump_for(engine, at, *jump, condition),
+        Simple::Return(Some(value)) => return_for(engine, at, value.get()),
         _ => None,
     }
 }
 
-// ---- statements that hold others
-
 #[cycle(making)]
-fn arm_for(engine: &mut Engine, at: Spot, branch: &Branch, depth: usize) -> Option<Arm>
+fn arm_for(
+    engine: &mut Engine,
+    at: Spot,
+    branch: &Branch,
+    depth: usize,
+    may_call: bool,
+) -> Option<Arm>
     ensures arm { IfSome result (λ arm. IsForArm depth arm branch.now (world engine.old)) }
     ensures is { world engine.new ≡ world engine.old }
     ensures keeps { kept engine.new ≡ kept engine.old }
 {
     let condition = read(engine, at, &branch.condition)?;
-    let acts = acts_for(engine, branch.statements.as_slice(), depth)?;
+    let acts = acts_for(engine, branch.statements.as_slice(), depth, may_call)?;
     Some(Arm { condition, acts })
 }
 
 #[cycle(making)]
-fn arms_for(engine: &mut Engine, at: Spot, branches: &[Branch], depth: usize) -> Option<List<Arm>>
+fn arms_for(
+    engine: &mut Engine,
+    at: Spot,
+    branches: &[Branch],
+    depth: usize,
+    may_call: bool,
+) -> Option<List<Arm>>
     ensures arms { IfSome result (λ arms. AreForBranches depth arms branches.now
         (world engine.old)) }
     ensures is { world engine.new ≡ world engine.old }
@@ -169,7 +243,7 @@ fn arms_for(engine: &mut Engine, at: Spot, branches: &[Branch], depth: usize) ->
 {
     let mut arms = List::new(engine.alloc());
     for branch in branches {
-        let arm = arm_for(engine, at, branch, depth)?;
+        let arm = arm_for(engine, at, branch, depth, may_call)?;
         let Ok(()) = arms.push(arm) else {
             return None;
         };
@@ -182,6 +256,7 @@ fn otherwise_for(
     engine: &mut Engine,
     otherwise: &Option<Boxed<Otherwise>>,
     depth: usize,
+    may_call: bool,
 ) -> Option<List<Act>>
     ensures acts { IfSome result (λ acts. AreFor depth acts (else_of otherwise.now)
         (world engine.old)) }
@@ -189,13 +264,20 @@ fn otherwise_for(
     ensures keeps { kept engine.new ≡ kept engine.old }
 {
     match otherwise {
-        Some(otherwise) => acts_for(engine, otherwise.get().statements.as_slice(), depth),
+        Some(otherwise) => {
+            acts_for(
+                engine,
+                otherwise.get().statements.as_slice(),
+                depth,
+                may_call,
+            )
+        }
         None => Some(List::new(engine.alloc())),
     }
 }
 
 #[cycle(making)]
-fn act_for(engine: &mut Engine, s: &Statement, depth: usize) -> Option<Act>
+fn act_for(engine: &mut Engine, s: &Statement, depth: usize, may_call: bool) -> Option<Act>
     ensures act { IfSome result (λ act. IsForOne depth act s.now (world engine.old)) }
     ensures is { world engine.new ≡ world engine.old }
     ensures keeps { kept engine.new ≡ kept engine.old }
@@ -208,13 +290,13 @@ fn act_for(engine: &mut Engine, s: &Statement, depth: usize) -> Option<Act>
         ordinal: s.ordinal,
     };
     match &s.kind {
-        StatementKind::Simple(s) => simple_act(engine, at, s),
+        StatementKind::Simple(s) => simple_act(engine, at, s, depth - 1, may_call),
         StatementKind::If {
             branches,
             otherwise,
         } => {
-            let arms = arms_for(engine, at, branches.as_slice(), depth - 1)?;
-            let others = otherwise_for(engine, otherwise, depth - 1)?;
+            let arms = arms_for(engine, at, branches.as_slice(), depth - 1, may_call)?;
+            let others = otherwise_for(engine, otherwise, depth - 1, may_call)?;
             Some(Act::Choose {
                 arms,
                 otherwise: others,
@@ -230,6 +312,7 @@ pub(crate) fn acts_for(
     engine: &mut Engine,
     statements: &[Statement],
     depth: usize,
+    may_call: bool,
 ) -> Option<List<Act>>
     ensures acts { IfSome result (λ acts. AreFor depth acts statements.now (world engine.old)) }
     ensures is { world engine.new ≡ world engine.old }
@@ -237,7 +320,7 @@ pub(crate) fn acts_for(
 {
     let mut acts = List::new(engine.alloc());
     for s in statements {
-        let act = act_for(engine, s, depth)?;
+        let act = act_for(engine, s, depth, may_call)?;
         let Ok(()) = acts.push(act) else {
             return None;
         };

@@ -1,13 +1,11 @@
 //! What variables were before a turn gave them values, so that the turn can be undone.
 
-ghost use Rattle.std.specs.Prelude.{◌≡◌, [], true, IfSome};
-ghost use Rattle.pl_engine.specs.Engines.{kept, world};
-ghost use Rattle.pl_engine.specs.pl_world.Variables.{with_value};
+ghost use Rattle.std.specs.Prelude.{◌≡◌, slice_set, true, IfSome};
 ghost use Rattle.pl_quick.specs.Old.{IsOld, Tracked, old_value, undone_in};
 
-use pl_base::Value;
+use crate::scratch::Scratch;
+use pl_base::{List, Value};
 use pl_direct::Known;
-use pl_engine::Engine;
 
 /// What a variable was.
 #[derive(Clone, Copy)]
@@ -17,8 +15,8 @@ pub(crate) struct Old {
     pub value: Option<Known>,
 }
 
-// Null, a number or a truth. None for any other value.
-fn known_or_null(value: &Value) -> Option<Option<Known>>
+/// Null, a number or a truth. None for any other value.
+pub(crate) fn known_or_null(value: &Value) -> Option<Option<Known>>
     ensures { IfSome result (λ known. value.now ≡ old_value known) }
 {
     match value {
@@ -41,40 +39,48 @@ fn value_of(known: Option<Known>) -> Value
 
 // What the variable of this place is. None where there is none, and where it is neither null nor a
 // number or a truth.
-fn old_at(engine: &Engine, column: usize) -> Option<Old>
-    ensures { IfSome result (λ old. IsOld old column (world engine.now)) }
+fn old_at(values: &[Value], column: usize) -> Option<Old>
+    ensures { IfSome result (λ old. IsOld old column values.now) }
 {
-    let value = engine.values().get(column)?;
+    let value = values.get(column)?;
     Some(Old {
         column,
         value: known_or_null(value)?,
     })
 }
 
-/// The variable of this place has this value, and what it was is kept. False where nothing is done.
-#[tactic(auto, using(crate::proofs::Olds::nothing))]
-pub(crate) fn assign(engine: &mut Engine, olds: &mut Vec<Old>, column: usize, value: Value) -> bool
-    ensures done { result ≡ true → world engine.new ≡ with_value column value (world engine.old) }
-    ensures tracked { Tracked olds.old.items olds.new.items engine.old engine.new }
-    ensures steps { (world engine.new).steps ≡ (world engine.old).steps }
+// The variable of this place has this value, if there is one.
+#[inline(always)]
+fn set(values: &mut List<Value>, column: usize, value: Value)
+    ensures { values.new ≡ slice_set values.old column value }
 {
-    let Some(old) = old_at(&*engine, column) else {
+    if column < values.len() {
+        values.set(column, value);
+    }
+}
+
+/// The variable of this place has this value, and what it was is kept. False where nothing is done.
+pub(crate) fn assign(scratch: &mut Scratch, column: usize, value: Value) -> bool
+    ensures done { result ≡ true
+        → scratch.new.values ≡ slice_set scratch.old.values column value }
+    ensures tracked { Tracked scratch.old scratch.new }
+    ensures steps { scratch.new.steps ≡ scratch.old.steps }
+{
+    let Some(old) = old_at(scratch.values.as_slice(), column) else {
         return false;
     };
-    let Ok(()) = olds.push(old) else {
+    let Ok(()) = scratch.olds.push(old) else {
         return false;
     };
-    engine.set(column, value);
+    set(&mut scratch.values, column, value);
     true
 }
 
 /// The variables are again what they were.
-pub(crate) fn undo(engine: &mut Engine, olds: &mut Vec<Old>)
-    ensures is { world engine.new ≡ undone_in olds.old.items (world engine.old) }
-    ensures keeps { kept engine.new ≡ kept engine.old }
-    ensures none { olds.new.items ≡ [] }
+pub(crate) fn undo(scratch: &mut Scratch)
+    ensures { scratch.new.values ≡ undone_in scratch.old }
 {
-    while let Some(old) = olds.pop() {
-        engine.set(old.column, value_of(old.value));
+    while let Some(old) = scratch.olds.pop() {
+        set(&mut scratch.values, old.column, value_of(old.value));
     }
 }

@@ -11,7 +11,7 @@ ghost use Rattle.pl_quick.specs.declared.turning.Turned.TheVariants as turned;
 ghost use Rattle.pl_tree.specs.declared.tree.Expr.{Expr};
 
 use crate::making::{DEPTH, acts_for, asked_for};
-use crate::old::Old;
+use crate::scratch::Scratch;
 use crate::turning::{Round, Turned, round_by};
 use pl_bodies::Statement;
 use pl_engine::{Engine, Spot};
@@ -35,8 +35,9 @@ const EARLY_ROUNDS: u32 = 2;
 #[derive(Drop)]
 pub struct Quick {
     plan: Plan,
-    /// What the variables were before the newest turn.
-    olds: Vec<Old>,
+    scratch: Scratch,
+    /// Of calls.
+    inner: Scratch,
 }
 
 // None where a statement does more than compute, or something isn't resolved.
@@ -51,7 +52,7 @@ fn round_for(
     ensures is { world engine.new ≡ world engine.old }
     ensures keeps { kept engine.new ≡ kept engine.old }
 {
-    let acts = acts_for(engine, body, DEPTH)?;
+    let acts = acts_for(engine, body, DEPTH, true)?;
     let condition = asked_for(engine, at, condition)?;
     Some(Round { condition, acts })
 }
@@ -76,7 +77,8 @@ impl Quick {
     {
         Quick {
             plan: Plan::Waiting(EARLY_ROUNDS),
-            olds: Vec::new(alloc),
+            scratch: Scratch::new(alloc),
+            inner: Scratch::new(alloc),
         }
     }
 
@@ -103,7 +105,7 @@ impl Quick {
     {
         self.wait(engine, at, condition, body);
         match &self.plan {
-            Plan::Made(round) => match round_by(round, engine, &mut self.olds) {
+            Plan::Made(round) => match round_by(round, engine, &mut self.scratch, &mut self.inner) {
                 Turned::Left => {
                     self.plan = Plan::GivenUp;
                     Turned::Left

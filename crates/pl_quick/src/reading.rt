@@ -1,16 +1,17 @@
 //! Numbers and truths that resolved expressions give over a row of variables. What is null or of
 //! another kind, or fails, has none.
 
-ghost use Rattle.std.specs.Prelude.{◌≡◌, [], ◌∷◌, map, not, IfSome, Some};
+ghost use Rattle.std.specs.Prelude.{◌≡◌, [], ◌∷◌, map, not, true, IfSome, Some};
 ghost use Rattle.pl_base.specs.declared.value.Value.TheVariants.{Bool as Truth};
 ghost use Rattle.pl_direct.specs.Direct.{Valued};
 ghost use Rattle.pl_direct.specs.Known.{value_of};
+ghost use Rattle.pl_quick.specs.Calling.{AllRead};
 ghost use Rattle.pl_value.specs.Meaning as spec;
 ghost use Rattle.pl_value.specs.Meaning.{Calls, Sub};
 ghost use Rattle.pl_value.specs.Number.{number_value};
 ghost use Rattle.pl_value.specs.Reading.{got};
 
-use pl_base::Value;
+use pl_base::{List, Value};
 use pl_direct::Known;
 use pl_resolved::RExpr;
 use pl_value::{Lent, Number, given_number, truth_in};
@@ -90,4 +91,27 @@ pub(crate) fn number_or_truth<C>(e: &RExpr, variables: &[Value]) -> Option<Known
         Some(number) => known(number),
         None => Some(Known::Bool(truth::<C>(e, variables)?)),
     }
+}
+
+fn clear(values: &mut List<Value>)
+    ensures { values.new ≡ [] }
+{
+    while let Some(_value) = values.pop() {}
+}
+
+/// The numbers and the truths of expressions, in the place of what was read before. False where one
+/// isn't read at once.
+pub(crate) fn all_read<C>(list: &[RExpr], variables: &[Value], read: &mut List<Value>) -> bool
+    ensures { result ≡ true → AllRead C list.now variables.now read.new }
+{
+    clear(read);
+    for e in list {
+        let Some(known) = number_or_truth::<C>(e, variables) else {
+            return false;
+        };
+        let Ok(()) = read.push(known.value()) else {
+            return false;
+        };
+    }
+    true
 }

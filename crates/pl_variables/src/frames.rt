@@ -141,6 +141,14 @@ impl<C: Drop> Frames<C> {
         }
     }
 
+    /// The variables of the newest call have these values, and what they had is handed out.
+    pub fn exchange(&mut self, values: List<Value>) -> List<Value>
+        ensures was { result ≡ self.old.newest.values }
+        ensures is { self.new ≡ spec.with_values values self.old }
+    {
+        mem::replace(&mut self.newest.values, values)
+    }
+
     /// So many rows were found or changed. FOUND has the place `found`.
     pub fn count(&mut self, found: usize, rows: u64)
         ensures { self.new ≡ spec.counted found rows self.old }

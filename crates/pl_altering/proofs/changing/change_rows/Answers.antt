@@ -5,7 +5,6 @@ use Rattle.pl_altering.specs.Ends.{done_from}
 use Rattle.pl_altering.specs.Entries.{AreEnough, entries}
 use Rattle.pl_altering.specs.Settings.{ReadsOver, setting_over}
 use Rattle.pl_altering.specs.declared.command.Command.{Command}
-use Rattle.pl_altering.specs.declared.keeping.Entry.{Entry}
 use Rattle.pl_querying.specs.pl_calling.Standing.{Standing}
 use Rattle.pl_world.specs.pl_change.Running.{copied}
 use Rattle.pl_world.specs.pl_change.declared.at_start.Copies.{Copies}
@@ -45,9 +44,9 @@ returns-clause-is g c =
     let same : rows (calls r c.args.at) c.as_slice-queries.result.now (copied c.in_ok-store.store.list.items) ≡ inner r c.args.at c.args.change.now.queries w =
     ap (λ (copies : Copies). rows (calls r c.args.at) c.as_slice-queries.result.now (copied copies.list.items)) c.in_ok-store.ensures
     ∙ (ap (λ (qs : List RQuery). rows (calls r c.args.at) qs (copied c.in_ok-copies.copies.list.items)) c.as_slice-queries.ensures ∙ c.in_ok-copies.ensures (calls r c.args.at)) in
-    let enough : AreEnough c.args.change.now (c.as_slice-2.result.now ∷ [] ∷ []) w.database.tables (entries c.as_slice-3.result.now) =
-    subst (λ (row : Row). AreEnough c.args.change.now (row ∷ [] ∷ []) w.database.tables (entries c.as_slice-3.result.now)) (c.as_slice.ensures ∙ sym c.as_slice-2.ensures)
-    (subst (λ (kept : List Entry). AreEnough c.args.change.now (c.as_slice.result.now ∷ [] ∷ []) w.database.tables (entries kept)) (sym c.as_slice-3.ensures.value) c.in_ok-rows.ensures) in
-    let reads = changed_over command inside w variables same (entries c.as_slice-3.result.now) c.run-answer.result c.run-answer.new.calling enough
-    (subst (λ (s : Standing). ReadsOver {A = List Row} command (λ (x : Within). does (setting_over command inside) (command.variables.now ∷ []) (entries c.as_slice-3.result.now) command.change.now.what x) c.run-answer.result s c.run-answer.new.calling) c.begin-calling.ensures c.run-answer.ensures) in
+    let kept = entries c.in_ok-rows.rows.items in
+    let enough : AreEnough c.args.change.now (c.as_slice-2.result.now ∷ [] ∷ []) w.database.tables kept =
+    subst (λ (row : Row). AreEnough c.args.change.now (row ∷ [] ∷ []) w.database.tables kept) (c.as_slice.ensures ∙ sym c.as_slice-2.ensures) c.in_ok-rows.ensures in
+    let reads = changed_over command inside w variables same kept c.run-answer.result c.run-answer.new.calling enough
+    (subst (λ (s : Standing). ReadsOver {A = List Row} command (λ (x : Within). does (setting_over command inside) (command.variables.now ∷ []) kept command.change.now.what x) c.run-answer.result s c.run-answer.new.calling) c.begin-calling.ensures c.run-answer.ensures) in
     c.finish.ensures.is (done_from r c.args.at c.args.change.now w) c.args.calls.now.room c.args.engine.now (sym c.requires.begins) (subst (λ (v : World). g.P.Port.fits v.last c.args.port.now) (sym c.requires.begins) c.requires.fits) reads

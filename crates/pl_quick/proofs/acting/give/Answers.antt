@@ -1,11 +1,10 @@
-use Rattle.std.proofs.Common.{◌∙◌, ap, refl, sym}
-use Rattle.pl_engine.specs.Engines.{world}
-use Rattle.pl_engine.specs.pl_world.World.{World, ends}
-use Rattle.pl_engine.specs.pl_world.declared.outcome.Outcome.TheVariants as outcome
+use Rattle.std.proofs.lemmas.Option.{IfSome_then}
 use Rattle.pl_quick.proofs.Values.{assigns}
 use Rattle.pl_quick.proofs.acting.give.Goals as goal
+use Rattle.pl_quick.specs.Calling.{given_to}
+use Rattle.pl_quick.specs.Computing.{outcome_of}
+use Rattle.pl_quick.specs.Scratch.{in_world}
 
-pub returns-then-assign-clause-computes : goal.returns-then-assign-clause-computes
-returns-then-assign-clause-computes c = λ r at t e given.
-    assigns r at (world c.args.engine.now) t e _ c.args.a.now.value c.in-Some.known _ given.aims given.reads c.in-Some.ensures c.in-Some-fitted.ensures
-    ∙ ap (λ (w : World). ends outcome.Next w) (sym (c.if-assign.ensures.done refl))
+pub returns-in-Some-clause-computes : goal.returns-in-Some-clause-computes
+returns-in-Some-clause-computes c = λ w. IfSome_then (outcome_of c.put.result) (c.put.ensures.computes w) (λ o puts r at t e given.
+    assigns r at (in_world c.args.scratch.now w) t e (given_to c.args.a.now given.is_required) c.args.a.now.value c.in-Some.known o (in_world c.put.new.scratch w) given.aims given.reads c.in-Some.ensures (puts at given.is_required))

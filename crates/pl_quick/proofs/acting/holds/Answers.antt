@@ -11,5 +11,5 @@ use Rattle.pl_value.specs.Frames.{Row}
 pub returns : goal.returns
 returns c =
     let tree : c.get-2.result.now ≡ c.args.e.now.typed.tree = c.get-2.ensures ∙ ap (λ (x : ResolvedExpr). x.typed.tree) c.get.ensures in
-    subst (λ (row : Row). IfSome c.truth.result (λ b. Valued Within c.args.e.now.typed.tree row (value.Bool b))) c.values.ensures
-    (subst (λ (t : RExpr). IfSome c.truth.result (λ b. Valued Within t c.values.result.now (value.Bool b))) tree c.truth.ensures)
+    subst (λ (row : Row). IfSome c.truth.result (λ b. Valued Within c.args.e.now.typed.tree row (value.Bool b))) c.as_slice.ensures
+    (subst (λ (t : RExpr). IfSome c.truth.result (λ b. Valued Within t c.as_slice.result.now (value.Bool b))) tree c.truth.ensures)

@@ -1,17 +1,11 @@
-use Rattle.std.proofs.Common.{List, ap, subst, sym}
-use Rattle.pl_engine.specs.pl_world.World.{World}
-use Rattle.pl_quick.proofs.Olds.{assigned_on, nothing}
+use Rattle.std.proofs.Common.{[], ◌++◌, ◌∙◌, ◌∷◌, List, ap, subst}
+use Rattle.pl_base.specs.declared.value.Value.{Value}
+use Rattle.pl_quick.proofs.Olds.{assigned_on}
 use Rattle.pl_quick.proofs.old.assign.Goals as goal
-use Rattle.pl_quick.specs.Old.{Tracked}
+use Rattle.pl_quick.specs.Old.{IsOld, undone}
 use Rattle.pl_quick.specs.declared.old.Old.{Old}
-
-pub returns-in_default-clause-tracked : goal.returns-in_default-clause-tracked
-returns-in_default-clause-tracked c = nothing c.args.olds.now.items c.args.engine.now
 
 pub returns-clause-tracked : goal.returns-clause-tracked
 returns-clause-tracked c =
-    subst (λ (os : List Old). Tracked c.args.olds.now.items os c.args.engine.now c.set.new.self) (sym c.in-Ok.ensures.items)
-    (assigned_on c.args.olds.now.items c.in-Some.old c.args.column c.args.value c.args.engine.now c.set.new.self c.in-Some.ensures c.set.ensures.is c.set.ensures.keeps)
-
-pub returns-clause-steps : goal.returns-clause-steps
-returns-clause-steps c = ap (λ (w : World). w.steps) c.set.ensures.is
+    ap (λ (os : List Old). undone os c.set.new.values) c.in-Ok.ensures.items
+    ∙ (ap (λ (row : List Value). undone (c.args.scratch.now.olds.items ++ c.in-Some.old ∷ []) row) c.set.ensures ∙ assigned_on c.args.scratch.now.olds.items c.in-Some.old c.args.column c.args.value c.args.scratch.now.values (subst (λ (row : List Value). IsOld c.in-Some.old c.args.column row) c.as_slice.ensures c.in-Some.ensures))

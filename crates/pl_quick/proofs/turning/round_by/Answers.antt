@@ -1,21 +1,16 @@
-use Rattle.std.proofs.Common.{◌≡◌, Bool, List, false, refl, rules, subst, sym, true}
+use Rattle.std.proofs.Common.{◌∙◌}
 use Rattle.pl_engine.specs.Engines.{world}
-use Rattle.pl_quick.proofs.Turns.{by_turn, no_turn}
+use Rattle.pl_quick.proofs.Turns.{fits_within, only_between, over_engine}
 use Rattle.pl_quick.proofs.turning.round_by.Goals as goal
-use Rattle.pl_quick.specs.Acts.{AreFor}
-use Rattle.pl_quick.specs.Computing.{IsAsked}
-use Rattle.pl_quick.specs.declared.act.Act.{Act}
 
-pub returns-in-Some-true-clause-turned : goal.returns-in-Some-true-clause-turned
-returns-in-Some-true-clause-turned c =
-    let is : c.in-Some-true.field-0 ≡ true = search rules in
-    λ condition body fits.
-    by_turn c.turn_by.result c.args.round.now.condition condition body (world c.args.engine.now) (world c.turn_by.new.engine) fits.0 (subst (λ (b : Bool). IsAsked c.args.round.now.condition b (world c.args.engine.now)) is c.in-Some-true.ensures) (c.turn_by.ensures.turned fits.1.0 body (subst (λ (xs : List Act). AreFor fits.1.0 xs body (world c.args.engine.now)) (sym c.as_slice.ensures) fits.1.1))
-
-pub returns-in-Some-false-clause-turned : goal.returns-in-Some-false-clause-turned
-returns-in-Some-false-clause-turned c =
-    let is : c.in-Some-false.field-0 ≡ false = search rules in
-    λ condition body fits. no_turn c.args.round.now.condition condition body (world c.args.engine.now) fits.0 (subst (λ (b : Bool). IsAsked c.args.round.now.condition b (world c.args.engine.now)) is c.in-Some-false.ensures)
-
-pub returns-in-None-clause-turned : goal.returns-in-None-clause-turned
-returns-in-None-clause-turned c = λ condition body fits. refl
+pub returns : goal.returns
+returns c =
+    let w0 = world c.args.engine.now in
+    let w1 = world c.take.new.engine in
+    let w3 = world c.give.new.engine in
+    record {
+      turned = λ condition body fits.
+          over_engine c.round_in-turned.result condition body w0 w1 w3 c.take.new.scratch c.round_in-turned.new.scratch c.take.ensures.is c.give.ensures.is (c.round_in-turned.ensures w1 condition body (fits_within c.args.round.now condition body w0 w1 c.take.new.scratch c.take.ensures.is fits));
+      only = only_between w0 w1 w3 c.take.new.scratch c.round_in-turned.new.scratch c.take.ensures.is c.give.ensures.is;
+      keeps = c.give.ensures.keeps ∙ c.take.ensures.keeps;
+    }

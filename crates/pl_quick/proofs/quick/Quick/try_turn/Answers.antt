@@ -2,7 +2,7 @@ use Rattle.std.proofs.Common.{◌∙◌, subst, sym}
 use Rattle.std.specs.Option.{option_copied}
 use Rattle.pl_engine.specs.Engines.{world}
 use Rattle.pl_engine.specs.pl_world.World.{World}
-use Rattle.pl_quick.proofs.Olds.{same_only}
+use Rattle.pl_quick.proofs.Turns.{same_only}
 use Rattle.pl_quick.proofs.quick.Quick.try_turn.Goals as goal
 use Rattle.pl_quick.specs.Acts.{PlanFits, RoundFits}
 use Rattle.pl_quick.specs.Computing.{OnlyComputed, TurnedAs}

@@ -8,7 +8,7 @@ use Rattle.pl_query.specs.Presence.{PassesAs}
 use Rattle.pl_query.specs.Sources.{standing_limit}
 use Rattle.pl_value.specs.Frames.{Frame, rows_of}
 use Rattle.pl_value.specs.declared.operand.Lent.{Lent}
-use Rattle.pl_query.proofs.presence.known_of.Goals as goal
+use Rattle.pl_query.proofs.presence.known_behind.Goals as goal
 
 pub returns-in-Nothing : goal.returns-in-Nothing
 returns-in-Nothing g c = λ tables q bare.
